@@ -1,0 +1,12 @@
+//! What every crate of the gateway stands on: octets, want of memory, and the outside as traits.
+#![tactic(auto)]
+
+mod charset;
+mod items;
+mod memory;
+mod octets;
+
+pub use charset::Charset;
+pub use items::Items;
+pub use memory::Memory;
+pub use octets::Octets;
