@@ -2,11 +2,13 @@
 #![tactic(auto)]
 
 mod charset;
+mod count;
 mod items;
 mod memory;
 mod octets;
 
 pub use charset::Charset;
+pub use count::raised;
 pub use items::Items;
 pub use memory::Memory;
 pub use octets::Octets;
