@@ -1,1 +1,5 @@
+pub mod Clock
 pub mod Count
+pub mod Course
+pub mod Shelf
+pub mod Talk

@@ -2,13 +2,29 @@
 #![tactic(auto)]
 
 mod charset;
+mod clock;
 mod count;
 mod items;
 mod memory;
+mod meter;
 mod octets;
+mod peer;
+mod piece;
+mod shelf;
+mod sink;
+mod source;
+mod writing;
 
 pub use charset::Charset;
+pub use clock::Clock;
 pub use count::raised;
 pub use items::Items;
 pub use memory::Memory;
+pub use meter::Meter;
 pub use octets::Octets;
+pub use peer::Peer;
+pub use piece::{Past, Piece};
+pub use shelf::{Shelf, ShelfFault};
+pub use sink::{Give, Sink};
+pub use source::{Source, Take};
+pub use writing::{Wrote, write_all};
