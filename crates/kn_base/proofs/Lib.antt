@@ -1,1 +1,2 @@
+pub mod MemPeers
 pub mod Talks
