@@ -1,2 +1,3 @@
+pub mod Decimals
 pub mod MemPeers
 pub mod Talks

@@ -54,11 +54,14 @@ heard_now faults starved quiets ended current at count waiting pieces more copie
     record {
       some = some;
       within = omega (arith, long, length-append copied rest);
-      next = (octets_left current (at + count) waiting, octets_left-front current at count waiting
-        ∙ ap (λ x. x ++ octets_left current (at + count) waiting) (sym front));
+      next = (
+        octets_left current (at + count) waiting,
+        octets_left-front current at count waiting
+            ∙ ap (λ x. x ++ octets_left current (at + count) waiting) (sym front),
+      );
       after = ap (λ x. course_of faults starved quiets ended x more) (sym (drop-octets_left current at count waiting within))
-        ∙ ap (λ x. course_of faults starved quiets ended (drop count left) x) (grown ∙ ap (λ x. pieces ++ Heard x ∷ []) (sym front))
-        ∙ ap (λ (x : List ℕ). let c : Course = course_of faults starved quiets ended (drop count left) (pieces ++ heard) in record c { given = Some x }) (said_of-heard pieces (take count (copied ++ rest)));
+          ∙ ap (λ x. course_of faults starved quiets ended (drop count left) x) (grown ∙ ap (λ x. pieces ++ Heard x ∷ []) (sym front))
+          ∙ ap (λ (x : List ℕ). let c : Course = course_of faults starved quiets ended (drop count left) (pieces ++ heard) in record c { given = Some x }) (said_of-heard pieces (take count (copied ++ rest)));
     }
 
 -- a give that took all
@@ -71,6 +74,6 @@ said_now faults starved quiets ended left pieces more octets some grown =
       some = some;
       within = omega arith;
       after = ap (λ x. course_of faults starved quiets ended left x) (grown ∙ ap (λ x. pieces ++ Said x ∷ []) (sym whole))
-        ∙ ap (λ (x : List ℕ). let c : Course = course_of faults starved quiets ended left (pieces ++ Said (take (length octets) octets) ∷ []) in record c { given = Some x })
-        (said_of-append pieces (Said (take (length octets) octets) ∷ []) ∙ ap (λ x. said_of pieces ++ x) (append-nil (take (length octets) octets)));
+          ∙ ap (λ (x : List ℕ). let c : Course = course_of faults starved quiets ended left (pieces ++ Said (take (length octets) octets) ∷ []) in record c { given = Some x })
+          (said_of-append pieces (Said (take (length octets) octets) ∷ []) ∙ ap (λ x. said_of pieces ++ x) (append-nil (take (length octets) octets)));
     }

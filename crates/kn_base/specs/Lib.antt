@@ -1,8 +1,12 @@
 pub mod Clock
 pub mod Count
 pub mod Course
+pub mod Decimal
+pub mod Hexadecimal
+pub mod MemClock
 pub mod MemCourse
 pub mod MemPeer
 pub mod MemReady
+pub mod MemShelf
 pub mod Shelf
 pub mod Talk

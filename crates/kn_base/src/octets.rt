@@ -96,4 +96,9 @@ impl Octets {
     {
         self.items.truncate(len);
     }
+
+    /// Where these octets take their memory.
+    pub(crate) fn allocator(&self) -> Global {
+        *self.items.allocator()
+    }
 }

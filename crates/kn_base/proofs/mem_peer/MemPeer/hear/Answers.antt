@@ -12,6 +12,6 @@ returns-in-Ok c =
     let count = rw (take_rest, is) at c.min-count.ensures in
     record {
       so = heard_now p.faults p.starved p.quiets p.ended p.current p.at c.min-count.result p.waiting.items p.pieces.items c.keep_heard.new.pieces.items _ _
-        (omega (arith, length-drop p.at p.current)) (omega (arith)) copied grown;
+          (omega (arith, length-drop p.at p.current)) (omega (arith)) copied grown;
       for_ever = λ ended. cc;
     }

@@ -1,0 +1,11 @@
+-- What a shelf in memory tells.
+use Rattle.std.specs.Prelude.{ℕ, List, Option, Some}
+use Rattle.kn_base.specs.declared.mem_shelf.MemShelf.{MemShelf}
+
+-- all its files
+abbrev pub files_of : MemShelf → Option (List (List ℕ × List ℕ))
+files_of s = Some s.files.items
+
+-- how often it failed
+abbrev pub faults_of : MemShelf → ℕ
+faults_of s = s.faults
