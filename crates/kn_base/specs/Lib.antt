@@ -3,6 +3,7 @@ pub mod Count
 pub mod Course
 pub mod Decimal
 pub mod Hexadecimal
+pub mod Host
 pub mod MemClock
 pub mod MemCourse
 pub mod MemPeer
