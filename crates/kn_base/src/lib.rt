@@ -1,4 +1,12 @@
-//! What every crate of the gateway stands on: octets, want of memory, and the outside as traits.
+//! What every crate of the gateway stands on.
+//!
+//! `Octets` and `Items` are lists that contracts see as lists, and `Memory` is want of memory. `Source`, `Sink` and
+//! `Peer` are connections, `Clock` is a clock and `Shelf` holds files. Each has forms in memory (`MemPeer`, `MemClock`,
+//! `MemShelf`), which tell all that they go through, and forms on the machine (`HostPeer`, `HostErrors`, `HostClock`,
+//! `HostShelf`), which tell nothing but how often they failed. `write_all`, `read_decimal`, `write_decimal`, `read_hex`
+//! and `write_hex` are what the others share.
+//!
+//! The one contract: a call of the outside does what its answer says, and a failure comes only where a count rose.
 #![tactic(auto)]
 
 mod charset;
@@ -48,3 +56,6 @@ pub use shelf::{Shelf, ShelfFault};
 pub use sink::{Give, Sink};
 pub use source::{Source, Take};
 pub use writing::{Wrote, write_all};
+
+#[cfg(test)]
+mod tests;

@@ -38,6 +38,22 @@ impl MemClock {
             telling: true,
         }
     }
+
+    /// The clock with its list, as one that wasn't read yet.
+    pub fn anew(self) -> MemClock
+        ensures told { readings_of result ≡ Some [] }
+        ensures latest { latest_of result ≡ 0 }
+    {
+        let mut read = self.read;
+        read.clear();
+        MemClock {
+            answers: self.answers,
+            next: 0,
+            latest: 0,
+            read,
+            telling: true,
+        }
+    }
 }
 
 impl Clock for MemClock {

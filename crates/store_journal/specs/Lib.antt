@@ -1,0 +1,4 @@
+pub mod Area
+pub mod Disk
+pub mod Journal
+pub mod MemDisk

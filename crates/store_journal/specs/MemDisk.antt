@@ -1,0 +1,16 @@
+-- What a disk in memory holds and has counted.
+use Rattle.std.specs.Prelude.{ℕ}
+use Rattle.store_journal.specs.Disk.{Areas}
+use Rattle.store_journal.specs.declared.mem_disk.MemDisk.{MemDisk}
+
+-- what the areas hold
+abbrev pub mem_areas : MemDisk → Areas
+mem_areas disk = record { a = disk.a.items; b = disk.b.items; pick = disk.pick.items }
+
+-- how many calls were made
+abbrev pub mem_calls : MemDisk → ℕ
+mem_calls disk = disk.calls
+
+-- how many of them failed
+abbrev pub mem_faults : MemDisk → ℕ
+mem_faults disk = disk.faults

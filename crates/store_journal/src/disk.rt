@@ -1,0 +1,50 @@
+//! What the store asks of a disk: five calls on three areas, what they do and when they may fail.
+
+ghost use Rattle.std.specs.Prelude.{◌≡◌, ◌<◌, ◌≤◌, ◌+◌, ◌^◌, ℕ, Option, length, is_some, IfOk, OnOk, IfSome};
+ghost use Rattle.store_journal.specs.Disk.{Areas, Counts, HasSize, Reads, after_write, IsWithin};
+
+use crate::Area;
+
+/// A call of a disk failed, and the disk has counted it.
+#[derive(Clone, Copy, Debug, PartialEq, Eq, Hash)]
+pub struct DiskFailed;
+
+/// Three areas of octets. Each call counts, and fails only where the disk's count of faults rose.
+pub trait Disk {
+    /// What the areas hold, where the disk tells it. A disk of real files doesn't.
+    ghost contents: { Self → Option Areas };
+
+    /// How often the disk has failed.
+    ghost faults: { Self → ℕ };
+
+    /// How many calls were made.
+    ghost calls: { Self → ℕ };
+
+    /// The number of octets in an area.
+    fn size(&mut self, area: Area) -> Result<u64, DiskFailed>
+        ensures counted { Counts (calls self.old) (calls self.new) (faults self.old) (faults self.new) result }
+        ensures kept { contents self.new ≡ contents self.old }
+        ensures size { IfOk result (HasSize (contents self.old) area) };
+
+    /// Fills `into` with the octets of an area from `at` on, which is in octets.
+    fn read(&mut self, area: Area, at: u64, into: &mut [u8]) -> Result<(), DiskFailed>
+        requires { IsWithin (contents self.old) area (at + length into.old) }
+        ensures counted { Counts (calls self.old) (calls self.new) (faults self.old) (faults self.new) result }
+        ensures kept { contents self.new ≡ contents self.old }
+        ensures read { OnOk result (Reads (contents self.old) area at into.new) };
+
+    /// Writes octets over an area from `at` on, and past its end. A write that would end past 2^62 octets
+    /// fails. After a fault nothing is said of what the areas hold.
+    fn write_at(&mut self, area: Area, at: u64, bytes: &[u8]) -> Result<(), DiskFailed>
+        requires some { 0 < length bytes.now }
+        requires inside { IsWithin (contents self.old) area at }
+        ensures counted { Counts (calls self.old) (calls self.new) (faults self.old) (faults self.new) result }
+        ensures told { is_some (contents self.new) ≡ is_some (contents self.old) }
+        ensures written { OnOk result (contents self.new ≡ after_write area at bytes.now (contents self.old)) }
+        ensures end { OnOk result (at + length bytes.now ≤ 2 ^ 62) };
+
+    /// Puts what was written to an area where a stop leaves it.
+    fn sync(&mut self, area: Area) -> Result<(), DiskFailed>
+        ensures counted { Counts (calls self.old) (calls self.new) (faults self.old) (faults self.new) result }
+        ensures kept { contents self.new ≡ contents self.old };
+}

@@ -1,0 +1,202 @@
+//! A disk of real files. It tells no contents: what a file holds is no matter of a proof.
+
+ghost use Rattle.std.specs.Prelude.{◌≡◌, None, IfOk};
+
+use crate::{Area, Disk, DiskFailed};
+use kn_base::{Memory, Octets, raised};
+use std::alloc::Global;
+use std::fs::{Files, OpenFile, OpenOptions};
+use std::io::{self, Read, Seek, SeekFrom, Write};
+
+/// The last place at which a write may end, in octets.
+const LAST_END: u64 = 1 << 62;
+
+// The file of one area: its name, and the file once it is open.
+#[derive(Drop)]
+struct HostFile<F> {
+    name: Octets,
+    file: Option<F>,
+}
+
+/// The areas as the files NAME.a, NAME.b and NAME.pick, by a name that is a path. A file is opened, and
+/// made where it is missing, by the first call on its area. Each error is counted.
+#[derive(Drop)]
+pub struct HostDisk<R: Files> {
+    rt: R,
+    a: HostFile<R::File>,
+    b: HostFile<R::File>,
+    pick: HostFile<R::File>,
+    calls: u64,
+    faults: u64,
+}
+
+impl<R: Files> HostDisk<R> {
+    /// The disk of a name. It opens no file. Where the name isn't UTF-8 each call fails.
+    pub fn new(alloc: Global, rt: R, name: &[u8]) -> Result<HostDisk<R>, Memory>
+    where
+        R: Drop,
+        ensures no_calls { IfOk result (λ disk. ⟦<HostDisk<R> as Disk>⟧.calls disk ≡ 0) }
+        ensures no_faults { IfOk result (λ disk. ⟦<HostDisk<R> as Disk>⟧.faults disk ≡ 0) }
+    {
+        Ok(HostDisk {
+            a: host_file(alloc, name, b".a")?,
+            b: host_file(alloc, name, b".b")?,
+            pick: host_file(alloc, name, b".pick")?,
+            rt,
+            calls: 0,
+            faults: 0,
+        })
+    }
+}
+
+// The file of an area, which isn't opened.
+fn host_file<F>(alloc: Global, name: &[u8], ending: &[u8]) -> Result<HostFile<F>, Memory>
+where
+    F: Drop,
+{
+    let mut whole = Octets::from_slice(alloc, name)?;
+    whole.extend_from_slice(ending)?;
+    Ok(HostFile {
+        name: whole,
+        file: None,
+    })
+}
+
+// Opens the file, and makes it where it is missing.
+fn open<R: Files>(rt: &R, name: &[u8]) -> io::Result<R::File> {
+    match std::str::from_utf8(name) {
+        Ok(path) => OpenOptions::new()
+            .read(true)
+            .write(true)
+            .create(true)
+            .open(rt, path),
+        Err(_) => Err(io::ErrorKind::InvalidInput.into()),
+    }
+}
+
+fn size<R: Files>(rt: &R, area: &mut HostFile<R::File>) -> io::Result<u64> {
+    if area.file.is_none() {
+        area.file = Some(open(rt, area.name.as_slice())?);
+    }
+    match &mut area.file {
+        Some(file) => file.seek(SeekFrom::End(0)),
+        None => Err(io::ErrorKind::NotFound.into()),
+    }
+}
+
+fn read<R: Files>(
+    rt: &R,
+    area: &mut HostFile<R::File>,
+    at: u64,
+    into: &mut [u8],
+) -> io::Result<()> {
+    if area.file.is_none() {
+        area.file = Some(open(rt, area.name.as_slice())?);
+    }
+    match &mut area.file {
+        Some(file) => {
+            file.seek(SeekFrom::Start(at))?;
+            file.read_exact(into)
+        }
+        None => Err(io::ErrorKind::NotFound.into()),
+    }
+}
+
+fn write<R: Files>(rt: &R, area: &mut HostFile<R::File>, at: u64, bytes: &[u8]) -> io::Result<()> {
+    if area.file.is_none() {
+        area.file = Some(open(rt, area.name.as_slice())?);
+    }
+    match &mut area.file {
+        Some(file) => {
+            file.seek(SeekFrom::Start(at))?;
+            file.write_all(bytes)
+        }
+        None => Err(io::ErrorKind::NotFound.into()),
+    }
+}
+
+fn sync<R: Files>(rt: &R, area: &mut HostFile<R::File>) -> io::Result<()> {
+    if area.file.is_none() {
+        area.file = Some(open(rt, area.name.as_slice())?);
+    }
+    match &mut area.file {
+        Some(file) => file.sync_all(),
+        None => Err(io::ErrorKind::NotFound.into()),
+    }
+}
+
+impl<R: Files> Disk for HostDisk<R> {
+    ghost contents = { λ disk. None };
+
+    ghost faults = { λ disk. disk.faults };
+
+    ghost calls = { λ disk. disk.calls };
+
+    fn size(&mut self, area: Area) -> Result<u64, DiskFailed> {
+        self.calls = raised(self.calls);
+        let done = match area {
+            Area::A => size(&self.rt, &mut self.a),
+            Area::B => size(&self.rt, &mut self.b),
+            Area::Pick => size(&self.rt, &mut self.pick),
+        };
+        match done {
+            Ok(size) => Ok(size),
+            Err(_) => {
+                self.faults = raised(self.faults);
+                Err(DiskFailed)
+            }
+        }
+    }
+
+    fn read(&mut self, area: Area, at: u64, into: &mut [u8]) -> Result<(), DiskFailed> {
+        self.calls = raised(self.calls);
+        let done = match area {
+            Area::A => read(&self.rt, &mut self.a, at, into),
+            Area::B => read(&self.rt, &mut self.b, at, into),
+            Area::Pick => read(&self.rt, &mut self.pick, at, into),
+        };
+        match done {
+            Ok(()) => Ok(()),
+            Err(_) => {
+                self.faults = raised(self.faults);
+                Err(DiskFailed)
+            }
+        }
+    }
+
+    fn write_at(&mut self, area: Area, at: u64, bytes: &[u8]) -> Result<(), DiskFailed> {
+        self.calls = raised(self.calls);
+        if at > LAST_END || bytes.len() as u64 > LAST_END - at {
+            self.faults = raised(self.faults);
+            return Err(DiskFailed);
+        }
+        let done = match area {
+            Area::A => write(&self.rt, &mut self.a, at, bytes),
+            Area::B => write(&self.rt, &mut self.b, at, bytes),
+            Area::Pick => write(&self.rt, &mut self.pick, at, bytes),
+        };
+        match done {
+            Ok(()) => Ok(()),
+            Err(_) => {
+                self.faults = raised(self.faults);
+                Err(DiskFailed)
+            }
+        }
+    }
+
+    fn sync(&mut self, area: Area) -> Result<(), DiskFailed> {
+        self.calls = raised(self.calls);
+        let done = match area {
+            Area::A => sync(&self.rt, &mut self.a),
+            Area::B => sync(&self.rt, &mut self.b),
+            Area::Pick => sync(&self.rt, &mut self.pick),
+        };
+        match done {
+            Ok(()) => Ok(()),
+            Err(_) => {
+                self.faults = raised(self.faults);
+                Err(DiskFailed)
+            }
+        }
+    }
+}

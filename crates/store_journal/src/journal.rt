@@ -1,0 +1,179 @@
+//! The journal: payloads handed out in order at the opening, and appended one by one after it.
+
+ghost use Rattle.std.specs.Prelude.{◌≡◌, ◌<◌, ◌≤◌, ◌∷◌, [], true, is_some, length, IfSome, IfOk, IfErr, OnOk, OnErr};
+ghost use Rattle.kn_base.specs.Count.{Rose};
+ghost use Rattle.store_journal.specs.Area.{IsPayload, stands, born};
+ghost use Rattle.store_journal.specs.Journal.{IsJournal, IsKept, HoldsMore, HoldsSame, AppendsUnit, disk_of, area_of, birth_of, is_broken, left, reserved, Hands, OpensAs, IsCause, IsUnlessDisk, IsUntouched};
+
+use crate::open::{Found, load};
+use crate::unit::{AROUND, payload_size, unit_and_gate};
+use crate::{Area, Disk, DiskFailed, OpenFault};
+use kn_base::{Memory, Octets};
+use std::alloc::Global;
+
+/// The payloads of a store, on a disk. After a call of the disk has failed it can only be closed.
+#[derive(Drop)]
+pub struct Journal<D: Disk> {
+    alloc: Global,
+    disk: D,
+    area: Area,
+    birth: u64,
+    // The octets of the picked area as the opening read them, and the place of the next unit in them.
+    octets: Vec<u8>,
+    place: usize,
+    // The place of the closed gate.
+    end: u64,
+    // The reserved payload in its unit, with the closed gate behind it. It is empty where none is reserved.
+    unit: Vec<u8>,
+    broken: bool,
+}
+
+impl<D: Disk> Journal<D> {
+    /// Opens the store on a disk, with all its payloads still to be handed out. A store that isn't born
+    /// is born with `birth`. `Foreign` comes where the areas are no store of ours, and leaves them;
+    /// `Disk` comes only where the disk counted a fault. Each fault gives the disk back.
+    pub fn open(alloc: Global, disk: D, birth: u64) -> Result<Journal<D>, (D, OpenFault)>
+        ensures opened { IfOk result (λ journal. IsJournal D.contents journal (birth_of journal) (left journal)) }
+        ensures kept { IfOk result (IsKept D.contents) }
+        ensures unreserved { IfOk result (λ journal. reserved journal ≡ []) }
+        ensures stood { IfOk result (λ journal. IfSome (D.contents disk) (λ areas.
+            OpensAs (stands areas) birth (birth_of journal) (area_of journal) (left journal))) }
+        ensures told { IfOk result (λ journal. is_some (D.contents (disk_of journal)) ≡ is_some (D.contents disk)) }
+        ensures unfailed { IfOk result (λ journal. D.faults (disk_of journal) ≡ D.faults disk) }
+        ensures cause { IfErr result (λ fault. IsCause (D.contents disk) fault.1) }
+        ensures untouched { IfOk result (λ journal. IsUntouched (D.contents disk) (D.contents (disk_of journal))) }
+        ensures untouched_back { IfErr result (λ fault. IsUntouched (D.contents disk) (D.contents fault.0)) }
+        ensures unchanged { IfErr result (λ fault. IsUnlessDisk fault.1 (D.contents fault.0 ≡ D.contents disk)) }
+        ensures told_back { IfErr result (λ fault. is_some (D.contents fault.0) ≡ is_some (D.contents disk)) }
+        ensures failed { IfErr result (λ fault. (fault.1 ≡ OpenFault.Disk) → Rose (D.faults disk) (D.faults fault.0)) }
+        ensures faults { IfErr result (λ fault. D.faults disk ≤ D.faults fault.0) }
+    {
+        let mut disk = disk;
+        match load(alloc, &mut disk, birth) {
+            Ok(found) => {
+                let Found {
+                    area,
+                    birth,
+                    octets,
+                    place,
+                    end,
+                } = found;
+                Ok(Journal {
+                    alloc,
+                    disk,
+                    area,
+                    birth,
+                    octets,
+                    place,
+                    end,
+                    unit: Vec::new(alloc),
+                    broken: false,
+                })
+            }
+            Err(fault) => Err((disk, fault)),
+        }
+    }
+
+    /// The birth of the store: the number that it was born with.
+    pub fn birth(&self) -> u64
+        ensures { result ≡ birth_of self.now }
+    {
+        self.birth
+    }
+
+    /// Whether a call of the disk has failed, so that the journal can only be closed.
+    pub fn is_broken(&self) -> bool
+        ensures { result ≡ is_broken self.now }
+    {
+        self.broken
+    }
+
+    /// The next payload, in order, or `None` behind the last. Only `Memory` is answered here, and it
+    /// leaves the place.
+    pub fn next(&mut self) -> Result<Option<Octets>, OpenFault>
+        requires { IsKept D.contents self.old }
+        ensures next { Hands (left self.old) result (left self.new) }
+        ensures disk { disk_of self.new ≡ disk_of self.old }
+        ensures area { area_of self.new ≡ area_of self.old }
+        ensures reserved { reserved self.new ≡ reserved self.old }
+        ensures kept { IsKept D.contents self.new }
+        ensures same { HoldsSame D.contents self.old self.new }
+    {
+        let Some(size) = payload_size(&self.octets[self.place..]) else {
+            return Ok(None);
+        };
+        let from = self.place + AROUND;
+        let octets = &self.octets[from..from + size];
+        match Octets::from_slice(self.alloc, octets) {
+            Ok(payload) => {
+                self.place = from + size;
+                Ok(Some(payload))
+            }
+            Err(Memory) => Err(OpenFault::Memory),
+        }
+    }
+
+    /// Appends the reserved payload in one write and one sync, and takes no memory. After `Ok` nothing
+    /// is reserved. After a fault the journal is broken: it can only be closed.
+    pub fn append(&mut self) -> Result<(), DiskFailed>
+        requires kept { IsKept D.contents self.old }
+        requires ended { left self.old ≡ [] }
+        requires reserved { 0 < length (reserved self.old) }
+        ensures holds_more { OnOk result (HoldsMore D.contents self.old self.new (reserved self.old ∷ [])) }
+        ensures keeps { OnOk result (IsKept D.contents self.new) }
+        ensures written { OnOk result (AppendsUnit D.contents self.old self.new) }
+        ensures nothing_left { left self.new ≡ [] }
+        ensures nothing_reserved { OnOk result (reserved self.new ≡ []) }
+        ensures broken { OnErr result (is_broken self.new ≡ true) }
+        ensures area { area_of self.new ≡ area_of self.old }
+        ensures told { is_some (D.contents (disk_of self.new)) ≡ is_some (D.contents (disk_of self.old)) }
+        ensures unfailed { OnOk result (D.faults (disk_of self.new) ≡ D.faults (disk_of self.old)) }
+        ensures failed { OnErr result (Rose (D.faults (disk_of self.old)) (D.faults (disk_of self.new))) }
+        ensures faults { D.faults (disk_of self.old) ≤ D.faults (disk_of self.new) }
+    {
+        self.broken = true;
+        self.disk.write_at(self.area, self.end, &self.unit)?;
+        self.disk.sync(self.area)?;
+        self.end += self.unit.len() as u64 - 1;
+        self.unit.clear();
+        self.broken = false;
+        Ok(())
+    }
+
+    /// Makes a payload of 1 to 16,777,216 octets the reserved one, in place of another. All memory for
+    /// its append is taken here. After `Memory` what was reserved still is.
+    pub fn reserve(&mut self, payload: &[u8]) -> Result<(), Memory>
+        requires kept { IsKept D.contents self.old }
+        requires size { IsPayload payload.now }
+        ensures ok { OnOk result (reserved self.new ≡ payload.now) }
+        ensures err { OnErr result (reserved self.new ≡ reserved self.old) }
+        ensures left { left self.new ≡ left self.old }
+        ensures disk { disk_of self.new ≡ disk_of self.old }
+        ensures area { area_of self.new ≡ area_of self.old }
+        ensures kept { IsKept D.contents self.new }
+        ensures same { HoldsSame D.contents self.old self.new }
+    {
+        self.unit = unit_and_gate(self.alloc, payload)?;
+        Ok(())
+    }
+
+    /// Ends the journal and gives its disk back.
+    pub fn close(self) -> D
+        ensures disk { result ≡ disk_of self }
+        ensures stands { (birth : _) (payloads : _) → IsJournal D.contents self birth payloads →
+            IfSome (D.contents result) (λ areas. stands areas ≡ born birth (area_of self) payloads) }
+    {
+        let Journal {
+            alloc: _,
+            disk,
+            area: _,
+            birth: _,
+            octets: _,
+            place: _,
+            end: _,
+            unit: _,
+            broken: _,
+        } = self;
+        disk
+    }
+}
