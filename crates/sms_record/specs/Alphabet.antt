@@ -1,0 +1,14 @@
+-- Which octets a field may have.
+use Rattle.std.specs.Prelude.{ℕ, Bool, true, nat_lt, nat_le, ◌&&◌}
+use Rattle.sms_record.specs.declared.reading.alphabet.Alphabet.{Alphabet}
+use Rattle.sms_record.specs.declared.reading.alphabet.Alphabet.TheVariants.{Any, Septet, Digit}
+
+-- between two bounds, and at each of them
+abbrev pub within : ℕ → ℕ → ℕ → Bool
+within least most n = nat_le least n && nat_le n most
+
+-- whether an octet is in an alphabet: any octet, a septet, a decimal digit
+abbrev pub is_in : Alphabet → ℕ → Bool
+is_in Any octet = true
+is_in Septet octet = nat_lt octet 128
+is_in Digit octet = within 48 57 octet

@@ -1,0 +1,22 @@
+//! Which octets the text of a field may have.
+
+ghost use Rattle.std.specs.Prelude.{◌≡◌};
+ghost use Rattle.sms_record.specs.Alphabet.{is_in as is_among};
+
+/// The octets that a field is made of.
+#[derive(Clone, Copy)]
+pub(crate) enum Alphabet {
+    Any,
+    Septet,
+    Digit,
+}
+
+pub(crate) fn is_in(alphabet: Alphabet, octet: u8) -> bool
+    ensures { result ≡ is_among alphabet octet }
+{
+    match alphabet {
+        Alphabet::Any => true,
+        Alphabet::Septet => octet < 128,
+        Alphabet::Digit => 48 <= octet && octet <= 57,
+    }
+}
