@@ -1,5 +1,7 @@
 //! The answers that a requester can get.
 
+use kn_base::Memory;
+
 /// What is wrong with a request.
 #[derive(Clone, Copy, Debug, PartialEq, Eq, Hash)]
 pub enum Spot {
@@ -24,4 +26,15 @@ pub enum Answer {
     Unavailable,
     /// 500: there was no memory.
     OutOfMemory,
+}
+
+impl From<Memory> for Answer {
+    ghost use Rattle.std.specs.Prelude.{◌≡◌};
+    ghost use Rattle.sendsms_http.specs.declared.answer.Answer.TheVariants.{OutOfMemory};
+
+    ghost from_gives = { λ _ answer. answer ≡ OutOfMemory };
+
+    fn from(_memory: Memory) -> Answer {
+        Answer::OutOfMemory
+    }
 }

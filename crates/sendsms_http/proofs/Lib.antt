@@ -1,0 +1,12 @@
+pub mod AskedLemmas
+pub mod Fields
+pub mod Handing
+pub mod Hearing
+pub mod HeadsRead
+pub mod Lengths
+pub mod LineCounts
+pub mod MessageLemmas
+pub mod Requests
+pub mod Saying
+pub mod SessionLemmas
+pub mod TargetLemmas
