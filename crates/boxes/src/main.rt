@@ -1,0 +1,41 @@
+//! The program: reads the words, makes the machine's house and calls the command.
+#![tactic(auto)]
+
+use boxes_main::{Failure, HostHouse, door, status};
+use kn_base::{Memory, Octets};
+use std::alloc::Global;
+use std::env;
+use std::io::ErrorKind;
+use std::process::ExitCode;
+use std::rt::{Env, Runtime};
+
+/// The words behind the program's name. Where they can't be read as text there are none, which is no command.
+fn read_words<R: Env + AllocGlobal>(rt: &R) -> Result<Vec<Octets>, Memory> {
+    let alloc: Global = rt.alloc();
+    let mut words = Vec::new(alloc);
+    match env::args(rt) {
+        Ok(args) => {
+            for word in args.skip(1) {
+                words.push(Octets::from_slice(alloc, word.as_bytes())?)?;
+            }
+        }
+        Err(error) if error.kind() == ErrorKind::OutOfMemory => return Err(Memory),
+        Err(_) => {}
+    }
+    Ok(words)
+}
+
+/// Runs the command that the words name, and gives the status.
+fn run<R: Runtime + AllocGlobal + Copy>(rt: R) -> u8 {
+    match read_words(&rt) {
+        Ok(words) => {
+            let mut house = HostHouse::new(rt);
+            door(rt.alloc(), &words, &mut house).status
+        }
+        Err(Memory) => status(Some(Failure::Memory)),
+    }
+}
+
+fn main(rt: HostRuntime) -> ExitCode {
+    ExitCode::from(run(rt))
+}

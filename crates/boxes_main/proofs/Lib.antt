@@ -1,0 +1,5 @@
+pub mod Handing
+pub mod Loading
+pub mod Opening
+pub mod Sessions
+pub mod Under

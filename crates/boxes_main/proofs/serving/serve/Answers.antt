@@ -1,0 +1,38 @@
+use Rattle.std.proofs.Common.{◌≡◌, Option, ap, sym, ◌∙◌, subst}
+use Rattle.kn_base.specs.Course.{Course}
+use Rattle.boxes_main.specs.Door.{Session, HasFailed, failure_by}
+use Rattle.boxes_main.specs.declared.failure.Failure.{Failure}
+use Rattle.boxes_main.proofs.Sessions.{connection_caused, session_of}
+use Rattle.boxes_main.proofs.serving.serve.Goals as goal
+
+pub returns-clause-connection : goal.returns-clause-connection
+returns-clause-connection g c = λ is.
+    let course = g.H.V.Meter.course in
+    let later = c.serve_http-end.new.peer in
+    let before : course c.visitor.result.now ≡ course (g.H.House.rooms c.args.house.now).visitor =
+    ap course (c.visitor.ensures.value ∙ ap (λ r. r.visitor) c.clock-clock.ensures.rooms) in
+    let after : course (g.H.House.rooms (g.H.House.with_visitor c.clock-clock.new.self later)).visitor ≡ course later =
+    ap (λ r. course r.visitor) (g.met.H.House.visitor_room c.clock-clock.new.self later) in
+    let failed = connection_caused c.is_broken.result c.serve_http-end.result (course c.visitor.result.now) (course later) (sym c.failure_of-failure.ensures ∙ is) c.serve_http-end.ensures.cause in
+    subst (λ (k : Course). HasFailed k (course (g.H.House.rooms (g.H.House.with_visitor c.clock-clock.new.self later)).visitor)) before
+    (subst (λ (k : Course). HasFailed (course c.visitor.result.now) k) (sym after) failed)
+
+pub returns-clause-session : goal.returns-clause-session
+returns-clause-session g c = λ birth accepts is.
+    let course = g.H.V.Meter.course in
+    let contents = g.H.D.Disk.contents in
+    let later = c.serve_http-end.new.peer in
+    let end = c.serve_http-end.result in
+    let s = c.serve_http-end.ensures.session in
+    let before : course c.visitor.result.now ≡ course (g.H.House.rooms c.args.house.now).visitor =
+    ap course (c.visitor.ensures.value ∙ ap (λ r. r.visitor) c.clock-clock.ensures.rooms) in
+    let after : course (g.H.House.rooms (g.H.House.with_visitor c.clock-clock.new.self later)).visitor ≡ course later =
+    ap (λ r. course r.visitor) (g.met.H.House.visitor_room c.clock-clock.new.self later) in
+    let session = session_of contents g.H.D.Disk.faults c.args.store c.serve_http-end.new.acceptor birth accepts (course c.visitor.result.now) (course later)
+    s.readings s.pieces s.deeds c.close.result c.is_broken.result end is s.led (sym c.is_broken.ensures) s.talk s.session c.close.ensures.stands in (
+      end,
+      s.readings,
+      subst (λ (f : Option Failure). Session contents accepts (course (g.H.House.rooms c.args.house.now).visitor) (course (g.H.House.rooms (g.H.House.with_visitor c.clock-clock.new.self later)).visitor) s.readings c.close.result f end) (sym c.failure_of-failure.ensures)
+          (subst (λ (k : Course). Session contents accepts k (course (g.H.House.rooms (g.H.House.with_visitor c.clock-clock.new.self later)).visitor) s.readings c.close.result (failure_by c.is_broken.result end) end) before
+          (subst (λ (k : Course). Session contents accepts (course c.visitor.result.now) k s.readings c.close.result (failure_by c.is_broken.result end) end) (sym after) session)),
+    )

@@ -1,0 +1,38 @@
+-- What the store keeps: the entries of messages that were accepted together.
+use Rattle.std.specs.Prelude.{◌≡◌, ℕ, List, [], length, map, All, sum_by}
+use Rattle.store_journal.specs.Area.{Standing, unborn, born, foreign}
+use Rattle.sms_record.specs.declared.sms.Sms.{Sms}
+use Rattle.sms_record.specs.Entry.{IsAccept, accept_octets}
+
+-- messages that were accepted together, and when
+pub record Accept : Type 0 where
+  pub time : ℕ
+  pub parts : List Sms
+
+-- it is in the grammar of entries
+abbrev pub IsEntry : Accept → Type 0
+IsEntry accept = IsAccept accept.time accept.parts
+
+-- the payload that it is kept as
+abbrev pub entry : Accept → List ℕ
+entry accept = accept_octets accept.time accept.parts
+
+-- the payloads that all are kept as, in their order
+abbrev pub entries : List Accept → List (List ℕ)
+entries accepts = map entry accepts
+
+-- how many messages they are
+abbrev pub messages : List Accept → ℕ
+messages accepts = sum_by (λ accept. length accept.parts) accepts
+
+-- areas that stand so are a store with these entries; one that isn't born has none
+abbrev pub StandsFor : Standing → List Accept → Type 0
+StandsFor unborn accepts = accepts ≡ []
+StandsFor (born birth area payloads) accepts = payloads ≡ entries accepts
+StandsFor (foreign area at) accepts = ⊥
+
+-- areas that stand so are no store: they are in no journal's grammar, or a payload of theirs is no entry
+abbrev pub IsForeign : Standing → Type 0
+IsForeign unborn = ⊥
+IsForeign (born birth area payloads) = (accepts : List Accept) → All IsEntry accepts → payloads ≡ entries accepts → ⊥
+IsForeign (foreign area at) = Unit {0}

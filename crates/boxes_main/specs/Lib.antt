@@ -1,0 +1,9 @@
+pub mod Accepts
+pub mod Configuration
+pub mod Deeds
+pub mod Disks
+pub mod Door
+pub mod Failure
+pub mod House
+pub mod MemHouse
+pub mod Store

@@ -1,0 +1,28 @@
+//! The commands of the gateway, over a house that hands out the outside.
+//!
+//! `House` is all that a command takes of the outside; `MemHouse` is one in memory, for tests, and `HostHouse` is the
+//! machine. `Store` keeps messages as entries in a journal and is what `serve_http` hands them to. `door` serves one
+//! connection over HTTP on standard input and output and returns `Ended`: the status, what went wrong, the disk and
+//! what the worker left.
+//!
+//! The one contract: what `door` says answers what it heard, and the disk that it hands back stands for what it found
+//! there and, exactly where it said 202, for the new message behind it.
+#![tactic(auto)]
+
+mod configuration;
+mod ended;
+mod failure;
+mod host_house;
+mod house;
+mod mem_house;
+mod serving;
+mod store;
+
+pub use configuration::{BASE, STORE_FILE};
+pub use ended::{Ended, Role, SessionEnd, WorkerEnd};
+pub use failure::{Failure, status};
+pub use host_house::HostHouse;
+pub use house::House;
+pub use mem_house::MemHouse;
+pub use serving::door;
+pub use store::{QUEUE_LIMIT, Store, StoreFault};
