@@ -1,8 +1,8 @@
 -- What the calls of a journal keep.
-use Rattle.std.proofs.Common.{◌≡◌, ℕ, ◌+◌, ◌-◌, ◌<◌, ◌≤◌, ◌^◌, Bool, true, false, List, [], ◌∷◌, ◌++◌, length, take, drop, refl, sym, ◌∙◌, ap, subst, arith, length-append, append_assoc, Option, Some, None}
-use Rattle.std.specs.Prelude.{All, IfSome}
+use Rattle.std.proofs.Common.{◌≡◌, ℕ, ◌+◌, ◌-◌, ◌<◌, ◌≤◌, false, List, [], ◌∷◌, ◌++◌, length, take, drop, sym, ◌∙◌, ap, subst, arith, length-append, append_assoc, Option, Some, None}
+use Rattle.std.specs.Prelude.{IfSome}
 use Rattle.store_journal.specs.Disk.{Areas, after_write}
-use Rattle.store_journal.specs.Area.{stands, born, gate_place, unit, units, payloads_in, IsPayload, IsStored}
+use Rattle.store_journal.specs.Area.{stands, born, gate_place, unit, units, IsPayload, IsStored}
 use Rattle.store_journal.specs.declared.area.Area.{Area}
 use Rattle.store_journal.specs.Journal.{IsJournal, left, reserved}
 use Rattle.store_journal.specs.declared.journal.Journal.{Journal}

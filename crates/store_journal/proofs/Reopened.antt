@@ -1,8 +1,8 @@
 -- What an opening finds on a disk that a journal has left.
-use Rattle.std.proofs.Common.{◌≡◌, ℕ, List, [], sym, ◌∙◌, subst, Option, Some, None}
+use Rattle.std.proofs.Common.{◌≡◌, ℕ, List, sym, ◌∙◌, subst, Option, Some, None}
 use Rattle.std.specs.Prelude.{IfSome}
 use Rattle.store_journal.specs.Disk.{Areas}
-use Rattle.store_journal.specs.Area.{Standing, unborn, born, foreign, stands}
+use Rattle.store_journal.specs.Area.{born, stands}
 use Rattle.store_journal.specs.Journal.{OpensAs, IsCause, IsUnforeign}
 use Rattle.store_journal.specs.declared.area.Area.{Area}
 use Rattle.store_journal.specs.declared.fault.OpenFault.{OpenFault}

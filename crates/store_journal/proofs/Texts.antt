@@ -1,17 +1,17 @@
 -- The text of an area is read as its payloads, and an append to it is the text of one more.
-use Rattle.std.proofs.Common.{◌≡◌, ℕ, zero, suc, ◌+◌, ◌-◌, ◌<◌, ◌≤◌, ◌^◌, Bool, true, false, not, ◌&&◌, cond, eqb, get_or, List, [], ◌∷◌, ◌++◌, length, take, drop, min, refl, sym, ◌∙◌, ap, subst, arith, length-append, length-drop, append_assoc, Option, Some, None, rules}
+use Rattle.std.proofs.Common.{◌≡◌, ℕ, ◌+◌, ◌<◌, ◌≤◌, ◌^◌, Bool, true, false, not, cond, eqb, get_or, List, [], ◌∷◌, ◌++◌, length, take, drop, refl, sym, ◌∙◌, ap, subst, arith, length-append, length-drop, append_assoc, Option, Some, None}
 use Rattle.std.specs.Prelude.{All, IfSome}
-use Rattle.std.specs.Int.{w32, w64, to_be_bytes, from_be_bytes}
+use Rattle.std.specs.Int.{w64, to_be_bytes, from_be_bytes}
 use Rattle.std.proofs.lemmas.Bool.{and_left, ne_eqb}
 use Rattle.std.proofs.lemmas.List.{take_at, drop_at, drop-drop, drop_more, append-nil, length-take-le, take-append-drop}
 use Rattle.std.proofs.lemmas.List.Elements.{All-append}
 use Rattle.std.proofs.lemmas.Nat.{from_be_bytes-to_be_bytes_8, be_bytes_8}
 use Rattle.std.proofs.Math.Seq.{take-add}
 use Rattle.store_journal.specs.Disk.{Areas, octets_of, with_octets, written, write_area}
-use Rattle.store_journal.specs.Area.{Standing, unborn, born, foreign, magic, header, header_front, unit, units, area_text, gate_place, units_end, reading, stands, standing, picked, begins_open, begins_unit, begins_closed, has_payload_size, size_behind, payloads_in, IsPayload, IsText, IsStored}
+use Rattle.store_journal.specs.Area.{unborn, born, foreign, magic, header, header_front, unit, units, area_text, gate_place, units_end, reading, stands, standing, picked, begins_unit, begins_closed, payloads_in, IsPayload, IsText, IsStored}
 use Rattle.store_journal.specs.declared.area.Area.{Area}
 use Rattle.store_journal.specs.declared.area.Area.TheVariants.{A, B, Pick}
-use Rattle.store_journal.proofs.Units.{payloads_in-units, units-append, length-unit, all_more, AreOctets, octets_front, octets_behind, spelled_as_read}
+use Rattle.store_journal.proofs.Units.{payloads_in-units, units-append, all_more, AreOctets, octets_front, octets_behind, spelled_as_read}
 use Rattle.store_journal.proofs.Fronts.{header_front_right, header_whole, front_whole}
 use Rattle.store_journal.specs.Journal.{OpensAs, after_birth}
 

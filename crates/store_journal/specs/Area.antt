@@ -1,9 +1,9 @@
 -- What the octets of an area stand for: a header, units of a gate, a length and a payload, and a closed gate.
-use Rattle.std.specs.Prelude.{◌≡◌, ◌≤◌, ◌+◌, ◌-◌, ℕ, zero, suc, Bool, true, false, not, ◌&&◌, ◌==◌, nat_lt, nat_le, List, [], ◌∷◌, ◌++◌, length, take, drop, min, if◌then◌else◌, Option, Some, None, IsTrue, ◌<◌, ◌^◌, All}
+use Rattle.std.specs.Prelude.{◌≡◌, ◌+◌, ℕ, zero, suc, Bool, false, not, ◌&&◌, ◌==◌, nat_lt, nat_le, List, [], ◌∷◌, ◌++◌, length, take, drop, min, if◌then◌else◌, Option, Some, None, IsTrue, ◌<◌, ◌^◌, All}
 use Rattle.std.specs.Int.{w32, w64, to_be_bytes, from_be_bytes}
 use Rattle.store_journal.specs.Disk.{Areas, octets_of}
 use Rattle.store_journal.specs.declared.area.Area.{Area}
-use Rattle.store_journal.specs.declared.area.Area.TheVariants.{A, B, Pick}
+use Rattle.store_journal.specs.declared.area.Area.TheVariants.{A, B}
 
 -- the text KNBOX-01
 abbrev pub magic : List ℕ

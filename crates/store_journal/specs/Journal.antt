@@ -1,5 +1,5 @@
 -- What a journal keeps, and what its calls answer.
-use Rattle.std.specs.Prelude.{◌≡◌, ◌≢◌, ◌<◌, ◌≤◌, ◌+◌, ◌-◌, ◌^◌, ℕ, Bool, true, false, List, [], ◌∷◌, ◌++◌, length, take, drop, All, Option, Some, None, Result, Ok, Err, IfSome, OnOk, IsErrOf}
+use Rattle.std.specs.Prelude.{◌≡◌, ◌<◌, ◌≤◌, ◌-◌, ◌^◌, ℕ, Bool, false, List, [], ◌∷◌, ◌++◌, length, take, drop, All, Option, Some, None, Result, Ok, Err, IfSome, OnOk, IsErrOf}
 use Rattle.store_journal.specs.Disk.{Areas, octets_of, after_write}
 use Rattle.store_journal.specs.Area.{Standing, unborn, born, foreign, stands, gate_place, unit, area_text, payloads_in, IsPayload, IsStored}
 use Rattle.kn_base.specs.Count.{Rose}

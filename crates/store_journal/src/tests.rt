@@ -318,9 +318,8 @@ fn real_files_hold_a_store(rt: HostRuntime) -> Result<(), Fail> {
 #[test]
 fn a_name_that_is_no_text_makes_each_call_fail(rt: HostRuntime) -> Result<(), Fail> {
     let alloc = rt.alloc();
-    match Journal::open(alloc, HostDisk::new(alloc, &rt, b"\xff")?, BIRTH) {
-        Ok(_) => assert!(rt; false),
-        Err((_disk, fault)) => assert_eq!(rt; fault, OpenFault::Disk),
-    }
+    let disk = HostDisk::new(alloc, &rt, b"\xff")?;
+    let (_disk, fault) = append_to(alloc, disk, b"ab")?;
+    assert_eq!(rt; fault, Some(OpenFault::Disk));
     Ok(())
 }

@@ -1,4 +1,4 @@
-use Rattle.std.proofs.Common.{◌≡◌, ℕ, ◌+◌, drop, arith, ◌∙◌}
+use Rattle.std.proofs.Common.{drop, arith, ◌∙◌}
 use Rattle.store_journal.proofs.Units.{step, stop, length-units_none}
 use Rattle.store_journal.proofs.open.behind_units.Goals as goal
 

@@ -1,6 +1,6 @@
-use Rattle.std.proofs.Common.{◌≡◌, ℕ, ◌+◌, ◌<◌, ◌≤◌, length, get_or, drop, arith, sym}
+use Rattle.std.proofs.Common.{◌≡◌, ◌+◌, drop, arith, sym}
 use Rattle.store_journal.specs.Area.{common_front, magic}
-use Rattle.store_journal.proofs.Fronts.{front_more, front_differs, front_ends, header_front_short, header_front_right}
+use Rattle.store_journal.proofs.Fronts.{front_more, front_differs, front_ends, header_front_short}
 use Rattle.store_journal.proofs.open.header_size.Goals as goal
 use Rattle.store_journal.proofs.open.header_size.Goals.{then-place-octets-via-then-place-octets, then-place-octets-via-else-place-octets+then-octets-place}
 

@@ -1,4 +1,4 @@
-use Rattle.std.proofs.Common.{List, ℕ, refl, arith, ap, sym, ◌∙◌, ◌≡◌, [], subst, Option, length}
+use Rattle.std.proofs.Common.{List, ℕ, refl, arith, ap, sym, ◌∙◌, ◌≡◌, [], subst, Option}
 use Rattle.std.specs.Prelude.{IfSome}
 use Rattle.store_journal.specs.Area.{payloads_in, stands, unborn, IsStored, gate_place}
 use Rattle.store_journal.specs.Disk.{Areas}

@@ -1,4 +1,4 @@
-use Rattle.std.proofs.Common.{List, ℕ, refl, arith, ap, sym, ◌∙◌, ◌≡◌, ◌≤◌, subst, length, drop, Option}
+use Rattle.std.proofs.Common.{List, ℕ, refl, arith, ap, sym, ◌∙◌, ◌≡◌, subst, drop, Option}
 use Rattle.std.specs.Prelude.{IfSome}
 use Rattle.store_journal.specs.Area.{payloads_in, IsText, IsStored, units_end}
 use Rattle.store_journal.specs.Disk.{Areas, octets_of}

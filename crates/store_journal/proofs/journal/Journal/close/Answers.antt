@@ -1,5 +1,3 @@
-use Rattle.std.proofs.Common.{◌≡◌}
-use Rattle.store_journal.specs.Area.{stands, born}
 use Rattle.store_journal.proofs.Kept.{stands_kept}
 use Rattle.store_journal.proofs.journal.Journal.close.Goals as goal
 

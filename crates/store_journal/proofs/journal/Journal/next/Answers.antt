@@ -1,7 +1,6 @@
 use Rattle.std.proofs.Common.{◌≡◌, ℕ, ◌+◌, ◌-◌, List, ◌∷◌, length, drop, take, arith, ◌∙◌, sym, ap, subst, refl, true}
 use Rattle.std.specs.Prelude.{IsTrue}
 use Rattle.store_journal.specs.Area.{begins_unit, size_behind, payloads_in}
-use Rattle.store_journal.specs.Journal.{left}
 use Rattle.store_journal.proofs.Units.{Step, step, stop, payloads_none}
 use Rattle.store_journal.proofs.Kept.{handed_on}
 use Rattle.store_journal.proofs.journal.Journal.next.Goals as goal

@@ -1,4 +1,4 @@
-use Rattle.std.proofs.Common.{◌≡◌, sym, subst, Option}
+use Rattle.std.proofs.Common.{◌≡◌, subst}
 use Rattle.std.specs.Prelude.{IfSome}
 use Rattle.store_journal.specs.Journal.{birth_of, area_of, left, IsUnforeign}
 use Rattle.store_journal.proofs.Reopened.{opens_again, never_foreign}
