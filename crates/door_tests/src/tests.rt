@@ -105,9 +105,22 @@ fn run(
     })
 }
 
+/// The request of `HELLO` with a text of so many letters, and this end.
+fn request_of(alloc: Global, letters: usize, end: &[u8]) -> Result<Octets, Memory> {
+    let mut request = octets(
+        alloc,
+        b"GET /cgi-bin/sendsms?username=tester&password=foobar&from=123&to=0123456&text=",
+    )?;
+    for _ in 0..letters {
+        request.extend_from_slice(b"x")?;
+    }
+    request.extend_from_slice(end)?;
+    Ok(request)
+}
+
 /// Runs one request in pieces of so many octets over an empty disk.
-fn run_request(alloc: Global, request: &str, size: usize) -> Result<Outcome, Memory> {
-    let takes = pieces(alloc, request.as_bytes(), size)?;
+fn run_request(alloc: Global, request: &[u8], size: usize) -> Result<Outcome, Memory> {
+    let takes = pieces(alloc, request, size)?;
     let visitor = MemPeer::new(alloc, takes, Vec::new(alloc));
     let empty = disk(alloc, Octets::new(alloc), b"", Vec::new(alloc))?;
     run(
@@ -122,7 +135,6 @@ fn run_request(alloc: Global, request: &str, size: usize) -> Result<Outcome, Mem
 #[test]
 fn each_request_has_its_answer_and_is_stored_where_it_is_202(rt: HostRuntime) -> Result<(), Fail> {
     let alloc = rt.alloc();
-    let target = "GET /cgi-bin/sendsms?username=tester&password=foobar";
     for (request, answer, area) in [
         ("", "", 17),
         (HELLO, QUEUED, 88),
@@ -146,6 +158,11 @@ fn each_request_has_its_answer_and_is_stored_where_it_is_202(rt: HostRuntime) ->
             NOT_BUILT,
             17,
         ),
+        (
+            "GET /cgi-bin/sendsms?username=tester&password=foobar&from=123&to=0123456&text=hello&username=tester HTTP/1.0\r\n\r\n",
+            NOT_BUILT,
+            17,
+        ),
         ("GET /cgi-bin/sendsms?username=tester", NOT_BUILT, 17),
         (
             "POST /cgi-bin/sendsms?username=tester&password=foobar&from=123&to=0123456&text=hello HTTP/1.0\r\n\r\n",
@@ -164,13 +181,32 @@ fn each_request_has_its_answer_and_is_stored_where_it_is_202(rt: HostRuntime) ->
         ),
         ("\0\0\0\0", NOT_BUILT, 17),
     ] {
-        let outcome = run_request(alloc, request, 4096)?;
+        let outcome = run_request(alloc, request.as_bytes(), 4096)?;
         assert_eq!(rt; outcome.status, 0, "{request}");
         assert_eq!(rt; outcome.said.as_slice(), answer.as_bytes(), "{request}");
         assert_eq!(rt; outcome.told.len(), 0, "{request}");
         assert_eq!(rt; outcome.area.len(), area, "{request}");
     }
-    assert!(rt; HELLO.starts_with(target));
+    Ok(())
+}
+
+#[test]
+fn a_text_has_at_most_160_letters_and_a_head_at_most_65536_octets(
+    rt: HostRuntime,
+) -> Result<(), Fail> {
+    let alloc = rt.alloc();
+    let end = b" HTTP/1.0\r\n\r\n".as_slice();
+    for (letters, end, answer, area) in [
+        (160, end, QUEUED, 243),
+        (161, end, NOT_BUILT, 17),
+        (65_536, b"".as_slice(), NOT_BUILT, 17),
+    ] {
+        let request = request_of(alloc, letters, end)?;
+        let outcome = run_request(alloc, request.as_slice(), 32_768)?;
+        assert_eq!(rt; outcome.status, 0, "{letters}");
+        assert_eq!(rt; outcome.said.as_slice(), answer.as_bytes(), "{letters}");
+        assert_eq!(rt; outcome.area.len(), area, "{letters}");
+    }
     Ok(())
 }
 
@@ -178,7 +214,7 @@ fn each_request_has_its_answer_and_is_stored_where_it_is_202(rt: HostRuntime) ->
 fn a_request_is_stored_as_one_unit_however_it_is_cut(rt: HostRuntime) -> Result<(), Fail> {
     let alloc = rt.alloc();
     for size in [1, 30, 4096] {
-        let outcome = run_request(alloc, HELLO, size)?;
+        let outcome = run_request(alloc, HELLO.as_bytes(), size)?;
         assert_eq!(rt; outcome.said.as_slice(), QUEUED.as_bytes());
         let area = outcome.area.as_slice();
         assert_eq!(rt; area.len(), 88);
@@ -304,7 +340,7 @@ fn a_second_session_finds_the_first_message_and_a_foreign_store_is_refused(
     rt: HostRuntime,
 ) -> Result<(), Fail> {
     let alloc = rt.alloc();
-    let first = run_request(alloc, HELLO, 4096)?;
+    let first = run_request(alloc, HELLO.as_bytes(), 4096)?;
     let takes = pieces(alloc, HELLO.as_bytes(), 4096)?;
     let kept = disk(alloc, first.area, &[1], Vec::new(alloc))?;
     let visitor = MemPeer::new(alloc, takes, Vec::new(alloc));

@@ -1,0 +1,83 @@
+#!/bin/sh
+# Runs `boxes door` once for each allocation that a run makes, with that allocation refused, and counts what was answered:
+# the status, the first line said, and how many messages the store holds then. It needs a C compiler.
+#
+#   bench/allocations.sh [CONF REQUEST]     examples/gate.conf and examples/hello.http where they aren't given
+set -eu
+
+here=$(CDPATH= cd -- "$(dirname -- "$0")/.." && pwd)
+conf=${1:-$here/examples/gate.conf}
+request=${2:-$here/examples/hello.http}
+unit=71   # octets that the message of examples/hello.http adds to an area
+header=17 # octets of an area without a message
+command -v cc > /dev/null 2>&1 || { echo "allocations.sh: skipped (no cc)"; exit 0; }
+
+room=$(mktemp -d)
+trap 'rm -rf "$room"' EXIT
+cat > "$room/refuse.c" << 'C'
+/* Refuses the allocation whose number is in REFUSE, counted from 1, and writes how many there were into COUNT. */
+#define _GNU_SOURCE
+#include <dlfcn.h>
+#include <errno.h>
+#include <stdio.h>
+#include <stdlib.h>
+
+static long calls, refused, counting;
+
+__attribute__((constructor)) static void begin(void) {
+    const char *number = getenv("REFUSE");
+    refused = number ? atol(number) : 0;
+    counting = 1;
+}
+
+static int refuses(void) { return counting && ++calls == refused; }
+
+void *malloc(size_t size) {
+    static void *(*next)(size_t);
+    if (!next) next = dlsym(RTLD_NEXT, "malloc");
+    if (refuses()) { errno = ENOMEM; return 0; }
+    return next(size);
+}
+
+void *realloc(void *old, size_t size) {
+    static void *(*next)(void *, size_t);
+    if (!next) next = dlsym(RTLD_NEXT, "realloc");
+    if (refuses()) { errno = ENOMEM; return 0; }
+    return next(old, size);
+}
+
+__attribute__((destructor)) static void end(void) {
+    const char *name = getenv("COUNT");
+    long all = calls;
+    counting = 0;
+    FILE *file = name ? fopen(name, "w") : 0;
+    if (file) { fprintf(file, "%ld\n", all); fclose(file); }
+}
+C
+cc -shared -fPIC -o "$room/refuse.so" "$room/refuse.c" -ldl
+program=$here/crates/boxes/out/boxes
+[ -x "$program" ] || "$here/boxes" 2> /dev/null || true
+
+cd "$room"
+cp "$conf" gate.conf
+
+# One run with the allocation of this number refused: prints the row of the table.
+one() {
+    rm -f gate.store.* said
+    status=0
+    REFUSE=$1 COUNT=$room/count LD_PRELOAD=$room/refuse.so "$program" door gate.conf < "$request" > said 2> told || status=$?
+    first=$(head -n 1 said | tr -d '\r')
+    size=$( { wc -c < gate.store.a; } 2> /dev/null || echo 0)
+    stored=none
+    [ "$size" -gt "$header" ] && stored=$(((size - header) / unit))
+    echo "status $status | ${first:-nothing said} | $(cat told) | messages stored: $stored"
+}
+
+echo "without a refusal: $(one 0)"
+most=$(cat count)
+echo "allocations in a run: $most"
+number=1
+while [ "$number" -le "$most" ]; do
+    one "$number"
+    number=$((number + 1))
+done | sort | uniq -c
