@@ -56,7 +56,7 @@ __attribute__((destructor)) static void end(void) {
 C
 cc -shared -fPIC -o "$room/refuse.so" "$room/refuse.c" -ldl
 program=$here/crates/boxes/out/boxes
-[ -x "$program" ] || "$here/boxes" 2> /dev/null || true
+[ -x "$program" ] || "$here/boxes" > /dev/null || true
 
 cd "$room"
 cp "$conf" gate.conf

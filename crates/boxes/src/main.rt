@@ -1,7 +1,7 @@
 //! The program: reads the words, makes the machine's house and calls the command.
 #![tactic(auto)]
 
-use boxes_main::{Failure, HostHouse, door, status};
+use boxes_main::{Failure, HostHouse, House, door, status, tell};
 use kn_base::{Memory, Octets};
 use std::alloc::Global;
 use std::env;
@@ -25,14 +25,16 @@ fn read_words<R: Env + AllocGlobal>(rt: &R) -> Result<Vec<Octets>, Memory> {
     Ok(words)
 }
 
-/// Runs the command that the words name, and gives the status.
+/// Runs the command that the words name, and gives the status. Where there is no memory for the words, it says so.
 fn run<R: Runtime + AllocGlobal + Copy>(rt: R) -> u8 {
+    let mut house = HostHouse::new(rt);
     match read_words(&rt) {
-        Ok(words) => {
-            let mut house = HostHouse::new(rt);
-            door(rt.alloc(), &words, &mut house).status
+        Ok(words) => door(rt.alloc(), &words, &mut house).status,
+        Err(Memory) => {
+            let failure = Some(Failure::Memory);
+            tell(house.errors(), failure);
+            status(failure)
         }
-        Err(Memory) => status(Some(Failure::Memory)),
     }
 }
 

@@ -20,7 +20,7 @@ mod store;
 
 pub use configuration::{BASE, STORE_FILE};
 pub use ended::{Ended, Role, SessionEnd, WorkerEnd};
-pub use failure::{Failure, status};
+pub use failure::{Failure, status, tell};
 pub use host_house::HostHouse;
 pub use house::House;
 pub use mem_house::MemHouse;
