@@ -5,9 +5,13 @@ use boxes_main::{Failure, HostHouse, House, door, status, tell};
 use kn_base::{Memory, Octets};
 use std::alloc::Global;
 use std::env;
+use std::fs::File;
 use std::io::ErrorKind;
 use std::process::ExitCode;
 use std::rt::{Env, Runtime};
+
+/// A file that gives nothing and takes nothing.
+const NULL: &str = "/dev/null";
 
 /// The words behind the program's name. Where they can't be read as text there are none, which is no command.
 fn read_words<R: Env + AllocGlobal>(rt: &R) -> Result<Vec<Octets>, Memory> {
@@ -27,6 +31,12 @@ fn read_words<R: Env + AllocGlobal>(rt: &R) -> Result<Vec<Octets>, Memory> {
 
 /// Runs the command that the words name, and gives the status. Where there is no memory for the words, it says so.
 fn run<R: Runtime + AllocGlobal + Copy>(rt: R) -> u8 {
+    // A standard stream that was closed leaves its descriptor to the next file that is opened, which would be one of the
+    // store, and the answer would be written into it. So these three stand open first.
+    let _first = File::open(&rt, NULL);
+    let _second = File::open(&rt, NULL);
+    let _third = File::open(&rt, NULL);
+
     let mut house = HostHouse::new(rt);
     match read_words(&rt) {
         Ok(words) => door(rt.alloc(), &words, &mut house).status,
