@@ -1,5 +1,5 @@
 -- Loading a store: the entries that were handed out so far.
-use Rattle.std.proofs.Common.{◌≡◌, ℕ, ◌+◌, ◌≤◌, List, [], ◌∷◌, ◌++◌, length, map, min, All, Option, refl, ap, sym, ◌∙◌, append_assoc, arith, subst}
+use Rattle.std.proofs.Common.{◌≡◌, ℕ, ◌+◌, List, [], ◌∷◌, ◌++◌, length, min, All, Option, refl, ap, sym, ◌∙◌, append_assoc, arith}
 use Rattle.std.proofs.lemmas.List.{map-append, append-nil}
 use Rattle.std.proofs.lemmas.List.Elements.{All-nil, All-push, All-head, All-tail}
 use Rattle.std.proofs.lemmas.List.Sums.{sum_by-append}
@@ -8,8 +8,6 @@ use Rattle.store_journal.specs.Disk.{Areas}
 use Rattle.store_journal.specs.Journal.{IsJournal, HoldsSame, disk_of, birth_of, left}
 use Rattle.store_journal.specs.declared.journal.Journal.{Journal}
 use Rattle.boxes_main.specs.Accepts.{Accept, IsEntry, entry, entries, messages}
-use Rattle.boxes_main.specs.Store.{IsStore}
-use Rattle.boxes_main.specs.declared.store.Store.{Store}
 
 -- The entries so far are those in front of what is left to hand out, and their messages are counted.
 pub record HasLoaded {D : Type 0} (contents : D → Option Areas) (first now : Journal D) (waiting : ℕ) : Type 0 where

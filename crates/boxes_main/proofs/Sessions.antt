@@ -1,5 +1,5 @@
 -- A session that was served, and what the command makes of it.
-use Rattle.std.proofs.Common.{◌≡◌, ℕ, Bool, true, false, List, ◌++◌, Option, Some, None, inl, inr, refl, sym, ◌∙◌, subst}
+use Rattle.std.proofs.Common.{◌≡◌, ℕ, Bool, true, false, List, ◌++◌, Option, Some, None, inl, inr, refl}
 use Rattle.std.specs.Prelude.{IfSome, IsSome, All}
 use Rattle.kn_base.specs.Course.{Course, with_more}
 use Rattle.kn_base.specs.Talk.{said_of, heard_of}
@@ -42,6 +42,7 @@ session_of contents faults store later birth accepts old new readings pieces dee
   ended = λ other. absurd (other refl);
   stored = λ other. absurd (other refl);
   spared = λ other. absurd (other refl);
+  reasoned = λ other. absurd (other refl);
 }
 session_of contents faults store later birth accepts old new readings pieces deeds disk false end is led whole talk session stand = record {
   pieces = pieces;
@@ -51,6 +52,7 @@ session_of contents faults store later birth accepts old new readings pieces dee
   ended = λ _. refl;
   stored = λ _. stand birth (accepts ++ done_of deeds) (led.gains whole birth accepts is);
   spared = λ _. led.spared whole;
+  reasoned = λ _. led.reasoned whole birth accepts is;
 }
 
 -- a session over a store that was opened is one over the entries that the disk stood for

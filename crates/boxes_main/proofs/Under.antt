@@ -1,7 +1,6 @@
 -- Looking a disk up by its name, from the front of a list.
-use Rattle.std.proofs.Common.{◌≡◌, ℕ, suc, ◌+◌, ◌<◌, Bool, true, false, cond, nat_eq, List, length, get_or, drop, Some, refl, ap, ◌∙◌, drop-cons, add-one}
+use Rattle.std.proofs.Common.{◌≡◌, ℕ, suc, ◌+◌, ◌<◌, true, false, cond, nat_eq, List, length, get_or, drop, Some, ap, drop-cons, add-one}
 use Rattle.std.specs.Cmp.Lexicographic.{pointwise}
-use Rattle.store_journal.specs.Disk.{Areas}
 use Rattle.store_journal.specs.MemDisk.{mem_areas}
 use Rattle.store_journal.specs.declared.mem_disk.MemDisk.{MemDisk}
 use Rattle.boxes_main.specs.Disks.{areas_under}

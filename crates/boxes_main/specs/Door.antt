@@ -14,7 +14,7 @@ use Rattle.store_journal.specs.Disk.{Areas}
 use Rattle.boxes_main.specs.Accepts.{Accept, IsEntry, StandsFor}
 use Rattle.boxes_main.specs.declared.store.StoreFault.{StoreFault}
 use Rattle.boxes_main.specs.declared.store.StoreFault.TheVariants as fault_is
-use Rattle.boxes_main.specs.Deeds.{done_of, IsSpared}
+use Rattle.boxes_main.specs.Deeds.{done_of, IsSpared, AreReasoned}
 use Rattle.boxes_main.specs.House.{Rooms}
 use Rattle.boxes_main.specs.declared.failure.Failure.{Failure}
 use Rattle.boxes_main.specs.declared.failure.Failure.TheVariants.{Usage, CannotRead, NotBuilt, Foreign, Disk, Connection, Memory}
@@ -39,6 +39,7 @@ pub record Session
   pub ended : failed ≢ Some Disk → failed ≡ failure_by false end
   pub stored : failed ≢ Some Disk → IfSome (contents disk) (λ areas. StandsFor (stands areas) (accepts ++ done_of deeds))
   pub spared : failed ≢ Some Disk → All IsSpared deeds
+  pub reasoned : failed ≢ Some Disk → AreReasoned accepts deeds
 
 -- what a house lends stays, but for its visitor
 abbrev pub KeepsOthers : {V S E : Type 0} → Rooms V S E → Rooms V S E → Type 0

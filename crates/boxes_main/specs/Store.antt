@@ -4,7 +4,7 @@ use Rattle.kn_base.specs.Count.{Rose, last_count}
 use Rattle.sendsms_http.specs.declared.reply.Refusal.{Refusal}
 use Rattle.sendsms_http.specs.declared.reply.Refusal.TheVariants as refusal_is
 use Rattle.store_journal.specs.Disk.{Areas}
-use Rattle.store_journal.specs.Journal.{IsJournal, HoldsSame, IsKept, left, disk_of, is_broken}
+use Rattle.store_journal.specs.Journal.{IsJournal, HoldsSame, left, disk_of, is_broken}
 use Rattle.store_journal.specs.declared.journal.Journal.{Journal}
 use Rattle.boxes_main.specs.Accepts.{Accept, IsEntry, entries, messages}
 use Rattle.boxes_main.specs.declared.store.Store.{Store}

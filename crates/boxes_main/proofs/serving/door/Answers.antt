@@ -1,4 +1,4 @@
-use Rattle.std.proofs.Common.{◌≡◌, ap, sym, subst, length}
+use Rattle.std.proofs.Common.{ap, sym, subst, length}
 use Rattle.kn_base.specs.Course.{Course}
 use Rattle.boxes_main.specs.declared.configuration.TheConstants.{STORE_FILE}
 use Rattle.boxes_main.specs.Door.{Served}

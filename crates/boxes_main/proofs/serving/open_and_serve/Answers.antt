@@ -1,4 +1,4 @@
-use Rattle.std.proofs.Common.{◌≡◌, Option, ap, subst, length}
+use Rattle.std.proofs.Common.{Option, ap, subst, length}
 use Rattle.kn_base.specs.Course.{Course}
 use Rattle.store_journal.specs.Disk.{Areas}
 use Rattle.boxes_main.specs.Door.{Served}

@@ -1,4 +1,4 @@
-use Rattle.std.proofs.Common.{◌≡◌, ap, subst, length}
+use Rattle.std.proofs.Common.{ap, subst, length}
 use Rattle.kn_base.specs.Course.{Course}
 use Rattle.boxes_main.specs.Door.{Served, HasFailed}
 use Rattle.boxes_main.proofs.Sessions.{served_over}

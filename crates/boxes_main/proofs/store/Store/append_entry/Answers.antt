@@ -1,4 +1,4 @@
-use Rattle.std.proofs.Common.{◌≡◌, ℕ, List, [], ◌∷◌, ◌++◌, ap, sym, ◌∙◌, subst}
+use Rattle.std.proofs.Common.{◌≡◌, ℕ, List, [], ◌∷◌, ◌++◌, ap, ◌∙◌, subst}
 use Rattle.sms_record.specs.Entry.{accept_octets}
 use Rattle.store_journal.specs.Journal.{IsJournal, reserved}
 use Rattle.boxes_main.proofs.store.Store.append_entry.Goals as goal

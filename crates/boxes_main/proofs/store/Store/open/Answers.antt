@@ -1,4 +1,3 @@
-use Rattle.std.proofs.Common.{◌≡◌}
 use Rattle.std.proofs.lemmas.Result.{IfOk-weaker}
 use Rattle.store_journal.specs.Area.{stands}
 use Rattle.store_journal.specs.Disk.{Areas}
