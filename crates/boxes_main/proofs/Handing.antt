@@ -65,7 +65,7 @@ module _ {D : Type 0} (contents : D → Option Areas) (faults : D → ℕ) (old 
     spared = λ later. All-cons IsSpared (record { parts = parts; time = time; outcome = outcome }) [] (spared_by outcome (sym broken ∙ later)) (All-nil IsSpared);
     reasoned = λ later birth accepts is. (
       let waiting = min (messages accepts) last_count in
-      subst (λ n. IsReason waiting n outcome) all (reason outcome replied refused waiting is.waiting),
+          subst (λ n. IsReason waiting n outcome) all (reason outcome replied refused waiting is.waiting),
       tt,
     );
     stays = λ earlier. absurd (false≢true (sym whole ∙ earlier));

@@ -63,11 +63,11 @@ done_of-append (deed ∷ xs) ys =
 reasoned-append : (accepts : List Accept) (xs ys : List Deed) → AreReasoned accepts xs → AreReasoned (accepts ++ done_of xs) ys → AreReasoned accepts (xs ++ ys)
 reasoned-append accepts [] ys first then_ = subst (λ x. AreReasoned x ys) (append-nil accepts) then_
 reasoned-append accepts (deed ∷ xs) ys first then_ = (
-    first.0,
-    reasoned-append (accepts ++ done_of (deed ∷ [])) xs ys first.1
-        (subst (λ x. AreReasoned x ys)
-        (ap (λ x. accepts ++ x) (done_of-append (deed ∷ []) xs) ∙ sym (append_assoc accepts (done_of (deed ∷ [])) (done_of xs))) then_),
-  )
+  first.0,
+  reasoned-append (accepts ++ done_of (deed ∷ [])) xs ys first.1
+      (subst (λ x. AreReasoned x ys)
+      (ap (λ x. accepts ++ x) (done_of-append (deed ∷ []) xs) ∙ sym (append_assoc accepts (done_of (deed ∷ [])) (done_of xs))) then_),
+)
 
 -- no deeds lead nowhere else
 pub Leads-nil : {D : Type 0} (contents : D → Option Areas) (faults : D → ℕ) (store : Store D) → Leads contents faults store [] store
