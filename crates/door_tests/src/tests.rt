@@ -305,16 +305,15 @@ fn a_give_that_fails_is_a_connection_fault_and_the_message_is_stored(
 }
 
 #[test]
-fn a_disk_call_that_fails_is_a_disk_fault(rt: HostRuntime) -> Result<(), Fail> {
+fn each_disk_call_that_fails_is_a_disk_fault(rt: HostRuntime) -> Result<(), Fail> {
     let alloc = rt.alloc();
-    for (call, answer) in [
-        (0, ""),
-        (2, ""),
-        (3, ""),
-        (8, ""),
-        (9, UNAVAILABLE),
-        (10, UNAVAILABLE),
-    ] {
+    let calls_to_open = 9;
+    for call in 0..11 {
+        let answer = if call < calls_to_open {
+            ""
+        } else {
+            UNAVAILABLE
+        };
         let takes = pieces(alloc, HELLO.as_bytes(), 4096)?;
         let visitor = MemPeer::new(alloc, takes, Vec::new(alloc));
         let failing = disk(alloc, Octets::new(alloc), b"", vec![in alloc; call]?)?;
