@@ -2,12 +2,12 @@
 # Runs `boxes door` once for each allocation that a run makes, with that allocation refused, and counts what was answered:
 # the status, the first line said, and how many messages the store holds then. It needs a C compiler.
 #
-#   bench/allocations.sh [CONF REQUEST]     examples/gate.conf and examples/hello.http where they aren't given
+#   bench/allocations.sh
 set -eu
 
 here=$(CDPATH= cd -- "$(dirname -- "$0")/.." && pwd)
-conf=${1:-$here/examples/gate.conf}
-request=${2:-$here/examples/hello.http}
+conf=$here/examples/gate.conf
+request=$here/examples/hello.http
 unit=71   # octets that the message of examples/hello.http adds to an area
 header=17 # octets of an area without a message
 command -v cc > /dev/null 2>&1 || { echo "allocations.sh: skipped (no cc)"; exit 0; }
