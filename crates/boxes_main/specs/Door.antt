@@ -1,12 +1,12 @@
 -- What the command `door` comes to.
-use Rattle.std.specs.Prelude.{◌≡◌, ◌≢◌, ◌⊎◌, ℕ, ◌<◌, Bool, true, false, List, [], ◌++◌, All, Option, Some, None, IfSome, Vec, vec_len, vec_capacity}
+use Rattle.std.specs.Prelude.{◌≡◌, ◌≢◌, ◌⊎◌, ℕ, ◌<◌, Bool, true, false, List, [], ◌∷◌, ◌++◌, All, Option, Some, None, IfSome, Vec, vec_len, vec_capacity}
 use Rattle.std.specs.declared.alloc.Global.{Global}
 use Rattle.kn_base.specs.Count.{Rose}
 use Rattle.kn_base.specs.Course.{Course, with_more}
 use Rattle.kn_base.specs.Talk.{said_of, heard_of}
 use Rattle.kn_base.specs.declared.piece.Piece.{Piece}
 use Rattle.sendsms_http.specs.Deeds.{Deed}
-use Rattle.sendsms_http.specs.Session.{HttpTalk}
+use Rattle.sendsms_http.specs.Session.{HttpTalk, IsCaused}
 use Rattle.sendsms_http.specs.declared.ending.HttpEnd.{HttpEnd}
 use Rattle.sendsms_http.specs.declared.ending.HttpEnd.TheVariants as end_is
 use Rattle.store_journal.specs.Area.{stands}
@@ -16,6 +16,7 @@ use Rattle.boxes_main.specs.declared.store.StoreFault.{StoreFault}
 use Rattle.boxes_main.specs.declared.store.StoreFault.TheVariants as fault_is
 use Rattle.boxes_main.specs.Deeds.{done_of, IsSpared, AreReasoned}
 use Rattle.boxes_main.specs.House.{Rooms}
+use Rattle.boxes_main.specs.Worker.{Worker, IsHttpWorker}
 use Rattle.boxes_main.specs.declared.failure.Failure.{Failure}
 use Rattle.boxes_main.specs.declared.failure.Failure.TheVariants.{Usage, CannotRead, NotBuilt, Foreign, Disk, Connection, Memory}
 
@@ -27,8 +28,9 @@ failure_by false end_is.Fault = Some Connection
 failure_by false end_is.Quiet = Some Connection
 failure_by false end_is.Memory = Some Memory
 
--- The session that was served over a store with these entries. What was said answers what was heard, and unless the disk
--- failed the disk that is handed back stands for these entries and, behind them, those of the messages that were accepted.
+-- The session that was served over a store with these entries. What was said answers what was heard, each end but a whole
+-- answer has its count of the visitor behind it, and unless the disk failed the disk that is handed back stands for these
+-- entries and, behind them, those of the messages that were accepted.
 pub record Session
     {D : Type 0} (contents : D → Option Areas) (accepts : List Accept) (old new : Course) (readings : List ℕ)
     (disk : D) (failed : Option Failure) (end : HttpEnd) : Type 0 where
@@ -36,6 +38,7 @@ pub record Session
   pub deeds : List Deed
   pub talk : new.talk ≡ with_more old.talk pieces
   pub session : HttpTalk (heard_of pieces) (said_of pieces) new.ended readings deeds end
+  pub caused : IsCaused end old new
   pub ended : failed ≢ Some Disk → failed ≡ failure_by false end
   pub stored : failed ≢ Some Disk → IfSome (contents disk) (λ areas. StandsFor (stands areas) (accepts ++ done_of deeds))
   pub spared : failed ≢ Some Disk → All IsSpared deeds
@@ -107,14 +110,17 @@ failure_to_open fault_is.Disk = Disk
 failure_to_open fault_is.Memory = Memory
 
 -- nothing was said, and no worker left anything
-abbrev pub IsUnserved : {V S E : Type 0} → Rooms V S E → Rooms V S E → ℕ → Type 0
-IsUnserved old new workers = (workers ≡ 0) × (new.visitor ≡ old.visitor)
+abbrev pub IsUnserved : {V S E W : Type 0} → Rooms V S E → Rooms V S E → List W → Type 0
+IsUnserved old new workers = (workers ≡ []) × (new.visitor ≡ old.visitor)
 
 -- Either no session was served and nothing was said, which comes only with a failure, or one was, over the entries that the
 -- disk stood for.
 pub data Served
-    {D : Type 0} (contents : D → Option Areas) (told : Option Areas) (old new : Course) (workers : ℕ) (disk : Option D) (failed : Option Failure) : Type 0 where
-  unserved : workers ≡ 0 → new ≡ old → failed ≢ None → failed ≢ Some Connection → Served contents told old new workers disk failed
-  served : workers ≡ 1 → (accepts : List Accept) → All IsEntry accepts → IfSome told (λ areas. StandsFor (stands areas) accepts)
+    {D C : Type 0} (contents : D → Option Areas) (readings_of : C → Option (List ℕ)) (told : Option Areas) (old new : Course)
+    (workers : List (Worker C)) (disk : Option D) (failed : Option Failure) : Type 0 where
+  unserved : workers ≡ [] → new ≡ old → failed ≢ None → failed ≢ Some Connection
+      → Served contents readings_of told old new workers disk failed
+  served : (accepts : List Accept) → All IsEntry accepts → IfSome told (λ areas. StandsFor (stands areas) accepts)
       → (after : D) → disk ≡ Some after → (end : HttpEnd) → (readings : List ℕ) → Session contents accepts old new readings after failed end
-      → Served contents told old new workers disk failed
+      → (worker : Worker C) → workers ≡ worker ∷ [] → IsHttpWorker readings_of worker readings end
+      → Served contents readings_of told old new workers disk failed

@@ -7,3 +7,4 @@ pub mod Failure
 pub mod House
 pub mod MemHouse
 pub mod Store
+pub mod Worker

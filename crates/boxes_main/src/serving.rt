@@ -1,14 +1,16 @@
 //! The command `door`: one connection over HTTP, on standard input and output.
 
-ghost use Rattle.std.specs.Prelude.{◌≡◌, ◌≢◌, ◌↔◌, IfOk, ℕ, List, [], ◌∷◌, None, Some, All, length, IsSome, IsSomeAnd, IfSome};
+ghost use Rattle.std.specs.Prelude.{◌≡◌, ◌≢◌, ◌↔◌, IfOk, ℕ, List, [], ◌∷◌, Option, None, Some, All, map, IsSome, IsSomeAnd, IfSome};
 ghost use Rattle.kn_base.specs.Count.{Rose};
 ghost use Rattle.kn_base.specs.Shelf.{text_of};
 ghost use Rattle.store_journal.specs.Area.{stands};
-ghost use Rattle.boxes_main.specs.Accepts.{Accept, IsForeign};
+ghost use Rattle.store_journal.specs.Disk.{Areas};
+ghost use Rattle.boxes_main.specs.Accepts.{Accept, StandsFor, IsForeign};
 ghost use Rattle.sendsms_http.specs.declared.ending.HttpEnd.{HttpEnd};
 ghost use Rattle.boxes_main.specs.Configuration.{configuration_of, IsConfigured, IsOther};
 ghost use Rattle.boxes_main.specs.Failure.{status_of, Tells};
 ghost use Rattle.boxes_main.specs.Store.{IsStore, IsOpen, disk_in};
+ghost use Rattle.boxes_main.specs.Worker.{worker_of};
 ghost use Rattle.boxes_main.specs.Door.{Session, Served, failure_by, failure_to_open, KeepsOthers, HasRoom, HasFailed, IsOfSession, IsOfStore, IsUnserved, IsPastConfiguration, IsEarly};
 
 use crate::configuration::{BASE, STORE_FILE, configuration_name, read_configuration};
@@ -49,17 +51,28 @@ fn make_room<H: House>(alloc: Global) -> Result<Room<H>, Memory>
     })
 }
 
-/// What is left where no store was asked for.
-fn refused<H: House>(alloc: Global, failure: Failure) -> Ended<H>
+/// Why an opening that failed ends the command.
+fn opening_failure(fault: StoreFault) -> Failure
+    ensures { result ≡ failure_to_open fault }
+{
+    match fault {
+        StoreFault::Foreign => Failure::Foreign,
+        StoreFault::Disk => Failure::Disk,
+        StoreFault::Memory => Failure::Memory,
+    }
+}
+
+/// What is left where no session was served: the disk, where one was asked for.
+fn unserved<H: House>(alloc: Global, failure: Failure, disk: Option<H::D>) -> Ended<H>
     ensures status { result.status ≡ status_of (Some failure) }
     ensures failure { result.failure ≡ Some failure }
-    ensures disk { result.disk ≡ None }
+    ensures disk { result.disk ≡ disk }
     ensures workers { result.workers ≡ [] }
 {
     Ended {
         status: status(Some(failure)),
         failure: Some(failure),
-        disk: None,
+        disk,
         workers: Items::new(alloc),
     }
 }
@@ -70,14 +83,14 @@ fn serve<H: House>(alloc: Global, house: &mut H, store: Store<H::D>, room: Room<
     requires room { HasRoom room.ends room.workers }
     ensures status { result.status ≡ status_of result.failure }
     ensures rooms { KeepsOthers (H.rooms house.old) (H.rooms house.new) }
-    ensures worker { length result.workers ≡ 1 }
     ensures disk { IsSome result.disk }
     ensures failed { result.failure ≡ Some Failure.Disk → IfSome result.disk (λ disk. Rose (H.D.faults (disk_in store)) (H.D.faults disk)) }
     ensures connection { result.failure ≡ Some Failure.Connection → HasFailed (H.V.course (H.rooms house.old).visitor) (H.V.course (H.rooms house.new).visitor) }
     ensures failures { IsOfSession result.failure }
-    ensures session { (birth : ℕ) (accepts : List Accept) → IsStore H.D.contents store birth accepts →
-        IfSome result.disk (λ disk. (end : HttpEnd) × (readings : List ℕ) × Session H.D.contents accepts
-        (H.V.course (H.rooms house.old).visitor) (H.V.course (H.rooms house.new).visitor) readings disk result.failure end) }
+    ensures session { (birth : ℕ) (accepts : List Accept) → IsStore H.D.contents store birth accepts
+        → (told : Option Areas) → IfSome told (λ areas. StandsFor (stands areas) accepts)
+        → Served H.D.contents H.C.readings told (H.V.course (H.rooms house.old).visitor) (H.V.course (H.rooms house.new).visitor)
+        (map worker_of result.workers) result.disk result.failure }
 {
     let mut store = store;
     let Room {
@@ -101,26 +114,6 @@ fn serve<H: House>(alloc: Global, house: &mut H, store: Store<H::D>, room: Room<
     }
 }
 
-/// What is left where the store could not be opened.
-fn unopened<H: House>(alloc: Global, disk: H::D, fault: StoreFault) -> Ended<H>
-    ensures status { result.status ≡ status_of result.failure }
-    ensures failure { result.failure ≡ Some (failure_to_open fault) }
-    ensures disk { result.disk ≡ Some disk }
-    ensures workers { result.workers ≡ [] }
-{
-    let failure = match fault {
-        StoreFault::Foreign => Failure::Foreign,
-        StoreFault::Disk => Failure::Disk,
-        StoreFault::Memory => Failure::Memory,
-    };
-    Ended {
-        status: status(Some(failure)),
-        failure: Some(failure),
-        disk: Some(disk),
-        workers: Items::new(alloc),
-    }
-}
-
 /// Opens the store on a disk and serves one session over it.
 fn serve_disk<H: House>(alloc: Global, house: &mut H, disk: H::D, room: Room<H>) -> Ended<H>
     requires { HasRoom room.ends room.workers }
@@ -131,13 +124,13 @@ fn serve_disk<H: House>(alloc: Global, house: &mut H, disk: H::D, room: Room<H>)
     ensures connection { result.failure ≡ Some Failure.Connection → HasFailed (H.V.course (H.rooms house.old).visitor) (H.V.course (H.rooms house.new).visitor) }
     ensures foreign { result.failure ≡ Some Failure.Foreign → IfSome (H.D.contents disk) (λ areas. IsForeign (stands areas)) }
     ensures failures { IsOfStore result.failure }
-    ensures session { Served H.D.contents (H.D.contents disk) (H.V.course (H.rooms house.old).visitor) (H.V.course (H.rooms house.new).visitor)
-        (length result.workers) result.disk result.failure }
+    ensures session { Served H.D.contents H.C.readings (H.D.contents disk) (H.V.course (H.rooms house.old).visitor) (H.V.course (H.rooms house.new).visitor)
+        (map worker_of result.workers) result.disk result.failure }
 {
     let birth = house.word();
     match Store::open(alloc, disk, birth) {
         Ok(store) => serve(alloc, house, store, room),
-        Err((disk, fault)) => unopened(alloc, disk, fault),
+        Err((disk, fault)) => unserved(alloc, opening_failure(fault), Some(disk)),
     }
 }
 
@@ -145,20 +138,20 @@ fn serve_disk<H: House>(alloc: Global, house: &mut H, disk: H::D, room: Room<H>)
 fn open_and_serve<H: House>(alloc: Global, house: &mut H) -> Ended<H>
     ensures status { result.status ≡ status_of result.failure }
     ensures rooms { KeepsOthers (H.rooms house.old) (H.rooms house.new) }
-    ensures no_disk { result.disk ≡ None → IsUnserved (H.rooms house.old) (H.rooms house.new) (length result.workers) }
+    ensures no_disk { result.disk ≡ None → IsUnserved (H.rooms house.old) (H.rooms house.new) result.workers }
     ensures failed { result.failure ≡ Some Failure.Disk → IsSomeAnd result.disk (λ disk. Rose 0 (H.D.faults disk)) }
     ensures connection { result.failure ≡ Some Failure.Connection → HasFailed (H.V.course (H.rooms house.old).visitor) (H.V.course (H.rooms house.new).visitor) }
     ensures foreign { result.failure ≡ Some Failure.Foreign → IfSome (H.disks house.old STORE_FILE.now) (λ areas. IsForeign (stands areas)) }
     ensures failures { IsOfStore result.failure }
-    ensures session { Served H.D.contents (H.disks house.old STORE_FILE.now) (H.V.course (H.rooms house.old).visitor) (H.V.course (H.rooms house.new).visitor)
-        (length result.workers) result.disk result.failure }
+    ensures session { Served H.D.contents H.C.readings (H.disks house.old STORE_FILE.now) (H.V.course (H.rooms house.old).visitor) (H.V.course (H.rooms house.new).visitor)
+        (map worker_of result.workers) result.disk result.failure }
 {
     let Ok(room) = make_room(alloc) else {
-        return refused(alloc, Failure::Memory);
+        return unserved(alloc, Failure::Memory, None);
     };
     match house.disk(alloc, STORE_FILE) {
         Ok(disk) => serve_disk(alloc, house, disk, room),
-        Err(Memory) => refused(alloc, Failure::Memory),
+        Err(Memory) => unserved(alloc, Failure::Memory, None),
     }
 }
 
@@ -170,17 +163,17 @@ fn configured<H: House>(alloc: Global, house: &mut H, name: &[u8]) -> Ended<H>
     ensures cannot_read { result.failure ≡ Some Failure.CannotRead → Rose (H.S.faults (H.rooms house.old).shelf) (H.S.faults (H.rooms house.new).shelf) }
     ensures not_built { result.failure ≡ Some Failure.NotBuilt → IfSome (H.S.files (H.rooms house.old).shelf) (λ files. text_of name.now files ≢ Some BASE.now) }
     ensures built { IsPastConfiguration result.failure → IfSome (H.S.files (H.rooms house.old).shelf) (λ files. text_of name.now files ≡ Some BASE.now) }
-    ensures no_disk { result.disk ≡ None → IsUnserved (H.rooms house.old) (H.rooms house.new) (length result.workers) }
+    ensures no_disk { result.disk ≡ None → IsUnserved (H.rooms house.old) (H.rooms house.new) result.workers }
     ensures untouched { IsEarly result.failure → (result.disk ≡ None) × (H.disks house.new ≡ H.disks house.old) }
     ensures failed { result.failure ≡ Some Failure.Disk → IsSomeAnd result.disk (λ disk. Rose 0 (H.D.faults disk)) }
     ensures connection { result.failure ≡ Some Failure.Connection → HasFailed (H.V.course (H.rooms house.old).visitor) (H.V.course (H.rooms house.new).visitor) }
     ensures foreign { result.failure ≡ Some Failure.Foreign → IfSome (H.disks house.old STORE_FILE.now) (λ areas. IsForeign (stands areas)) }
-    ensures session { Served H.D.contents (H.disks house.old STORE_FILE.now) (H.V.course (H.rooms house.old).visitor) (H.V.course (H.rooms house.new).visitor)
-        (length result.workers) result.disk result.failure }
+    ensures session { Served H.D.contents H.C.readings (H.disks house.old STORE_FILE.now) (H.V.course (H.rooms house.old).visitor) (H.V.course (H.rooms house.new).visitor)
+        (map worker_of result.workers) result.disk result.failure }
 {
     match read_configuration(alloc, house.shelf(), name) {
         Ok(()) => open_and_serve(alloc, house),
-        Err(failure) => refused(alloc, failure),
+        Err(failure) => unserved(alloc, failure, None),
     }
 }
 
@@ -204,22 +197,16 @@ pub fn door<H: House>(alloc: Global, words: &[Octets], house: &mut H) -> Ended<H
 
     // A refused configuration and faulty words touch no store.
     ensures untouched { IsEarly result.failure → (result.disk ≡ None) × (H.disks house.new ≡ H.disks house.old) }
-    ensures no_disk { result.disk ≡ None → IsUnserved (H.rooms house.old) (H.rooms house.new) (length result.workers) }
+    ensures no_disk { result.disk ≡ None → IsUnserved (H.rooms house.old) (H.rooms house.new) result.workers }
 
     // What was said and stored.
-    ensures session { Served H.D.contents (H.disks house.old STORE_FILE.now) (H.V.course (H.rooms house.old).visitor) (H.V.course (H.rooms house.new).visitor)
-        (length result.workers) result.disk result.failure }
+    ensures session { Served H.D.contents H.C.readings (H.disks house.old STORE_FILE.now) (H.V.course (H.rooms house.old).visitor) (H.V.course (H.rooms house.new).visitor)
+        (map worker_of result.workers) result.disk result.failure }
 {
-    match configuration_name(words) {
-        Some(name) => {
-            let ended = configured(alloc, house, name.as_slice());
-            tell(house.errors(), ended.failure);
-            ended
-        }
-        None => {
-            let ended = refused(alloc, Failure::Usage);
-            tell(house.errors(), ended.failure);
-            ended
-        }
-    }
+    let ended = match configuration_name(words) {
+        Some(name) => configured(alloc, house, name.as_slice()),
+        None => unserved(alloc, Failure::Usage, None),
+    };
+    tell(house.errors(), ended.failure);
+    ended
 }

@@ -1,0 +1,24 @@
+-- What a worker leaves, as far as a contract reads it.
+use Rattle.std.specs.Prelude.{◌≡◌, ℕ, List, [], ◌∷◌, Option, IfSome, IsSomeAnd}
+use Rattle.sendsms_http.specs.declared.ending.HttpEnd.{HttpEnd}
+use Rattle.boxes_main.specs.declared.ended.Role.{Role}
+use Rattle.boxes_main.specs.declared.ended.Role.TheVariants as role_is
+use Rattle.boxes_main.specs.declared.ended.SessionEnd.{SessionEnd}
+use Rattle.boxes_main.specs.declared.ended.SessionEnd.TheVariants as ended_as
+use Rattle.boxes_main.specs.declared.ended.WorkerEnd.{WorkerEnd}
+
+-- its role, its clock, where it took one, and the ends of its sessions, in order
+pub record Worker (C : Type 0) : Type 0 where
+  pub role : Role
+  pub clock : Option C
+  pub ends : List SessionEnd
+
+-- what is left in a house with these types
+abbrev pub worker_of : {H V D C S E : Type 0} → WorkerEnd H V D C S E → Worker C
+worker_of left = record { role = left.role; clock = left.clock; ends = left.ends }
+
+-- The worker of one session over HTTP: its clock, which was read so and no more where it tells that, and the session's end.
+pub record IsHttpWorker {C : Type 0} (told : C → Option (List ℕ)) (worker : Worker C) (readings : List ℕ) (end : HttpEnd) : Type 0 where
+  pub role : worker.role ≡ role_is.Http
+  pub clock : IsSomeAnd worker.clock (λ clock. IfSome (told clock) (λ all. all ≡ readings))
+  pub ends : worker.ends ≡ ended_as.Http end ∷ []
