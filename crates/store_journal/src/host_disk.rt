@@ -7,19 +7,23 @@ use kn_base::{Memory, Octets, raised};
 use std::alloc::Global;
 use std::fs::{Files, OpenFile, OpenOptions};
 use std::io::{self, Read, Seek, SeekFrom, Write};
+use std::path::Path;
 
 /// The last place at which a write may end, in octets.
 const LAST_END: u64 = 1 << 62;
 
-// The file of one area: its name, and the file once it is open.
+// The file of one area: its name, the file once it is open, and whether the folder was synced since then.
 #[derive(Drop)]
 struct HostFile<F> {
     name: Octets,
     file: Option<F>,
+    is_named: bool,
 }
 
 /// The areas as the files NAME.a, NAME.b and NAME.pick, by a name that is a path. A file is opened, and
-/// made where it is missing, by the first call on its area. Each error is counted.
+/// made where it is missing, by the first call on its area. The first sync of an area also syncs the folder
+/// that names its file, without which a file that was made in this run could be gone after a power cut.
+/// Each error is counted.
 #[derive(Drop)]
 pub struct HostDisk<R: Files> {
     rt: R,
@@ -59,29 +63,45 @@ where
     Ok(HostFile {
         name: whole,
         file: None,
+        is_named: false,
     })
 }
 
-// Opens the file, and makes it where it is missing.
-fn open<R: Files>(rt: &R, name: &[u8]) -> io::Result<R::File> {
-    match std::str::from_utf8(name) {
-        Ok(path) => OpenOptions::new()
-            .read(true)
-            .write(true)
-            .create(true)
-            .open(rt, path),
+fn path_of(name: &[u8]) -> io::Result<&str> {
+    match str::from_utf8(name) {
+        Ok(path) => Ok(path),
         Err(_) => Err(io::ErrorKind::InvalidInput.into()),
     }
 }
 
-fn size<R: Files>(rt: &R, area: &mut HostFile<R::File>) -> io::Result<u64> {
+// Syncs the folder that names the file at a path.
+fn sync_folder<R: Files>(rt: &R, path: &str) -> io::Result<()> {
+    let folder = match Path::new(path).parent().and_then(|folder| folder.to_str()) {
+        Some(folder) if !folder.is_empty() => folder,
+        _ => ".",
+    };
+    OpenOptions::new().read(true).open(rt, folder)?.sync_all()
+}
+
+// The file of an area, which is opened, and made where it is missing, by the first call.
+fn opened<'a, R: Files>(rt: &R, area: &'a mut HostFile<R::File>) -> io::Result<&'a mut R::File> {
     if area.file.is_none() {
-        area.file = Some(open(rt, area.name.as_slice())?);
+        let path = path_of(area.name.as_slice())?;
+        let file = OpenOptions::new()
+            .read(true)
+            .write(true)
+            .create(true)
+            .open(rt, path)?;
+        area.file = Some(file);
     }
     match &mut area.file {
-        Some(file) => file.seek(SeekFrom::End(0)),
+        Some(file) => Ok(file),
         None => Err(io::ErrorKind::NotFound.into()),
     }
+}
+
+fn size<R: Files>(rt: &R, area: &mut HostFile<R::File>) -> io::Result<u64> {
+    opened(rt, area)?.seek(SeekFrom::End(0))
 }
 
 fn read<R: Files>(
@@ -90,39 +110,24 @@ fn read<R: Files>(
     at: u64,
     into: &mut [u8],
 ) -> io::Result<()> {
-    if area.file.is_none() {
-        area.file = Some(open(rt, area.name.as_slice())?);
-    }
-    match &mut area.file {
-        Some(file) => {
-            file.seek(SeekFrom::Start(at))?;
-            file.read_exact(into)
-        }
-        None => Err(io::ErrorKind::NotFound.into()),
-    }
+    let file = opened(rt, area)?;
+    file.seek(SeekFrom::Start(at))?;
+    file.read_exact(into)
 }
 
 fn write<R: Files>(rt: &R, area: &mut HostFile<R::File>, at: u64, bytes: &[u8]) -> io::Result<()> {
-    if area.file.is_none() {
-        area.file = Some(open(rt, area.name.as_slice())?);
-    }
-    match &mut area.file {
-        Some(file) => {
-            file.seek(SeekFrom::Start(at))?;
-            file.write_all(bytes)
-        }
-        None => Err(io::ErrorKind::NotFound.into()),
-    }
+    let file = opened(rt, area)?;
+    file.seek(SeekFrom::Start(at))?;
+    file.write_all(bytes)
 }
 
 fn sync<R: Files>(rt: &R, area: &mut HostFile<R::File>) -> io::Result<()> {
-    if area.file.is_none() {
-        area.file = Some(open(rt, area.name.as_slice())?);
+    opened(rt, area)?.sync_all()?;
+    if !area.is_named {
+        sync_folder(rt, path_of(area.name.as_slice())?)?;
+        area.is_named = true;
     }
-    match &mut area.file {
-        Some(file) => file.sync_all(),
-        None => Err(io::ErrorKind::NotFound.into()),
-    }
+    Ok(())
 }
 
 impl<R: Files> Disk for HostDisk<R> {

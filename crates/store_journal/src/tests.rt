@@ -316,10 +316,26 @@ fn real_files_hold_a_store(rt: HostRuntime) -> Result<(), Fail> {
 }
 
 #[test]
-fn a_name_that_is_no_text_makes_each_call_fail(rt: HostRuntime) -> Result<(), Fail> {
+fn a_store_may_lie_in_another_folder(rt: HostRuntime) -> Result<(), Fail> {
     let alloc = rt.alloc();
-    let disk = HostDisk::new(alloc, &rt, b"\xff")?;
+    std::fs::create_dir(&rt, "shop")?;
+    let disk = HostDisk::new(alloc, &rt, b"shop/gate.store")?;
     let (_disk, fault) = append_to(alloc, disk, b"ab")?;
-    assert_eq!(rt; fault, Some(OpenFault::Disk));
+    assert_eq!(rt; fault, None);
+    assert_eq!(rt;
+        std::fs::read(&rt, "shop/gate.store.pick")?.as_slice(),
+        [1].as_slice()
+    );
+    Ok(())
+}
+
+#[test]
+fn a_name_of_no_file_makes_each_call_fail(rt: HostRuntime) -> Result<(), Fail> {
+    let alloc = rt.alloc();
+    for name in [b"\xff".as_slice(), b"no-folder/gate.store"] {
+        let disk = HostDisk::new(alloc, &rt, name)?;
+        let (_disk, fault) = append_to(alloc, disk, b"ab")?;
+        assert_eq!(rt; fault, Some(OpenFault::Disk));
+    }
     Ok(())
 }
