@@ -1,6 +1,6 @@
 -- A session that was served, and what the command makes of it.
 use Rattle.std.proofs.Common.{◌≡◌, ℕ, Bool, true, false, List, [], ◌∷◌, ◌++◌, Option, Some, None, inl, inr, refl, ap, ◌∙◌}
-use Rattle.std.specs.Prelude.{IfSome}
+use Rattle.std.specs.Prelude.{IfSome, IsSomeAnd, is_some}
 use Rattle.kn_base.specs.Course.{Course, with_more}
 use Rattle.kn_base.specs.Talk.{said_of, heard_of}
 use Rattle.kn_base.specs.declared.piece.Piece.{Piece}
@@ -37,14 +37,20 @@ new_readings readings old None none adds = tt
 new_readings readings (Some old) (Some all) none adds = let was : old ≡ adds.0 = cc in let more : all ≡ adds.0 ++ readings = adds.2 in cc
 new_readings readings None (Some all) none adds = absurd cc
 
+-- what holds of contents that are still told
+pub still_told : (before now : Option Areas) (P : Areas → Type 0) → is_some now ≡ is_some before → IfSome now P → IfSome before (λ _. IsSomeAnd now P)
+still_told None now P same holds = tt
+still_told (Some old) None P same holds = absurd cc
+still_told (Some old) (Some new) P same holds = holds
+
 -- what a session leaves, by whether the store broke in it
 pub session_of : {D : Type 0} (contents : D → Option Areas) (faults : D → ℕ) (store later : Store D) (birth : ℕ) (accepts : List Accept)
     (old new : Course) (readings : List ℕ) (pieces : List Piece) (deeds : List Deed) (disk : D) (broken : Bool) (end : HttpEnd)
     → IsStore contents store birth accepts → Leads contents faults store deeds later → is_store_broken later ≡ broken
     → new.talk ≡ with_more old.talk pieces → HttpTalk (heard_of pieces) (said_of pieces) new.ended readings deeds end → IsCaused end old new
-    → ((b : ℕ) (all : List Accept) → IsStore contents later b all → IfSome (contents disk) (λ areas. StandsFor (stands areas) all))
-    → Session contents accepts old new readings disk (failure_by broken end) end
-session_of contents faults store later birth accepts old new readings pieces deeds disk true end is led whole talk session caused stand = record {
+    → ((b : ℕ) (all : List Accept) → IsStore contents later b all → IfSome (contents disk) (λ areas. StandsFor (stands areas) b all))
+    → (told : Option Areas) → is_some (contents disk) ≡ is_some told → Session contents told birth accepts old new readings disk (failure_by broken end) end
+session_of contents faults store later birth accepts old new readings pieces deeds disk true end is led whole talk session caused stand told tells = record {
   pieces = pieces;
   deeds = deeds;
   talk = talk;
@@ -55,14 +61,15 @@ session_of contents faults store later birth accepts old new readings pieces dee
   spared = λ other. absurd (other refl);
   reasoned = λ other. absurd (other refl);
 }
-session_of contents faults store later birth accepts old new readings pieces deeds disk false end is led whole talk session caused stand = record {
+session_of contents faults store later birth accepts old new readings pieces deeds disk false end is led whole talk session caused stand told tells = record {
   pieces = pieces;
   deeds = deeds;
   talk = talk;
   session = session;
   caused = caused;
   ended = λ _. refl;
-  stored = λ _. stand birth (accepts ++ done_of deeds) (led.gains whole birth accepts is);
+  stored = λ _. still_told told (contents disk) (λ areas. StandsFor (stands areas) birth (accepts ++ done_of deeds)) tells
+      (stand birth (accepts ++ done_of deeds) (led.gains whole birth accepts is));
   spared = λ _. led.spared whole;
   reasoned = λ _. led.reasoned whole birth accepts is;
 }

@@ -11,7 +11,7 @@ use Rattle.sendsms_http.specs.declared.ending.HttpEnd.{HttpEnd}
 use Rattle.sendsms_http.specs.declared.ending.HttpEnd.TheVariants as end_is
 use Rattle.store_journal.specs.Area.{stands}
 use Rattle.store_journal.specs.Disk.{Areas}
-use Rattle.boxes_main.specs.Accepts.{Accept, IsEntry, StandsFor}
+use Rattle.boxes_main.specs.Accepts.{Accept, IsEntry, StandsFor, IsLeftWith, IsLeftAlone}
 use Rattle.boxes_main.specs.declared.store.StoreFault.{StoreFault}
 use Rattle.boxes_main.specs.declared.store.StoreFault.TheVariants as fault_is
 use Rattle.boxes_main.specs.Deeds.{done_of, IsSpared, AreReasoned}
@@ -28,19 +28,19 @@ failure_by false end_is.Fault = Some Connection
 failure_by false end_is.Quiet = Some Connection
 failure_by false end_is.Memory = Some Memory
 
--- The session that was served over a store with these entries. What was said answers what was heard, each end but a whole
--- answer has its count of the visitor behind it, and unless the disk failed the disk that is handed back stands for these
--- entries and, behind them, those of the messages that were accepted.
+-- The session that was served over a store of this birth with these entries. What was said answers what was heard, each end but a whole
+-- answer has its count of the visitor behind it, and unless the disk failed the disk that is handed back stands for the same
+-- store with these entries and, behind them, those of the messages that were accepted.
 pub record Session
-    {D : Type 0} (contents : D → Option Areas) (accepts : List Accept) (old new : Course) (readings : List ℕ)
-    (disk : D) (failed : Option Failure) (end : HttpEnd) : Type 0 where
+    {D : Type 0} (contents : D → Option Areas) (told : Option Areas) (birth : ℕ) (accepts : List Accept) (old new : Course)
+    (readings : List ℕ) (disk : D) (failed : Option Failure) (end : HttpEnd) : Type 0 where
   pub pieces : List Piece
   pub deeds : List Deed
   pub talk : new.talk ≡ with_more old.talk pieces
   pub session : HttpTalk (heard_of pieces) (said_of pieces) new.ended readings deeds end
   pub caused : IsCaused end old new
   pub ended : failed ≢ Some Disk → failed ≡ failure_by false end
-  pub stored : failed ≢ Some Disk → IfSome (contents disk) (λ areas. StandsFor (stands areas) (accepts ++ done_of deeds))
+  pub stored : failed ≢ Some Disk → IsLeftWith told (contents disk) birth (accepts ++ done_of deeds)
   pub spared : failed ≢ Some Disk → All IsSpared deeds
   pub reasoned : failed ≢ Some Disk → AreReasoned accepts deeds
 
@@ -113,14 +113,15 @@ failure_to_open fault_is.Memory = Memory
 abbrev pub IsUnserved : {V S E W : Type 0} → Rooms V S E → Rooms V S E → List W → Type 0
 IsUnserved old new workers = (workers ≡ []) × (new.visitor ≡ old.visitor)
 
--- Either no session was served and nothing was said, which comes only with a failure, or one was, over the entries that the
--- disk stood for.
+-- Either no session was served and nothing was said, which comes only with a failure and unless the disk failed loses nothing
+-- of what was stored, or one was, over the store that the disk stood for.
 pub data Served
     {D C : Type 0} (contents : D → Option Areas) (readings_of : C → Option (List ℕ)) (told : Option Areas) (old new : Course)
     (workers : List (Worker C)) (disk : Option D) (failed : Option Failure) : Type 0 where
   unserved : workers ≡ [] → new ≡ old → failed ≢ None → failed ≢ Some Connection
+      → (failed ≢ Some Disk → IfSome disk (λ after. IsLeftAlone told (contents after)))
       → Served contents readings_of told old new workers disk failed
-  served : (accepts : List Accept) → All IsEntry accepts → IfSome told (λ areas. StandsFor (stands areas) accepts)
-      → (after : D) → disk ≡ Some after → (end : HttpEnd) → (readings : List ℕ) → Session contents accepts old new readings after failed end
+  served : (birth : ℕ) → (accepts : List Accept) → All IsEntry accepts → IfSome told (λ areas. StandsFor (stands areas) birth accepts)
+      → (after : D) → disk ≡ Some after → (end : HttpEnd) → (readings : List ℕ) → Session contents told birth accepts old new readings after failed end
       → (worker : Worker C) → workers ≡ worker ∷ [] → IsHttpWorker readings_of worker readings end
       → Served contents readings_of told old new workers disk failed

@@ -4,7 +4,7 @@ use Rattle.kn_base.specs.Count.{Rose, last_count}
 use Rattle.sendsms_http.specs.declared.reply.Refusal.{Refusal}
 use Rattle.sendsms_http.specs.declared.reply.Refusal.TheVariants as refusal_is
 use Rattle.store_journal.specs.Disk.{Areas}
-use Rattle.store_journal.specs.Journal.{IsJournal, HoldsSame, left, disk_of, is_broken}
+use Rattle.store_journal.specs.Journal.{IsJournal, HoldsSame, left, disk_of, birth_of, is_broken}
 use Rattle.store_journal.specs.declared.journal.Journal.{Journal}
 use Rattle.boxes_main.specs.Accepts.{Accept, IsEntry, entries, messages}
 use Rattle.boxes_main.specs.declared.store.Store.{Store}
@@ -32,6 +32,10 @@ module _ {D : Type 0} where
     pub nothing_left : left store.journal ≡ []
     pub each : All IsEntry accepts
     pub waiting : store.waiting ≡ min (messages accepts) last_count
+
+  -- the birth of a store
+  abbrev pub birth_in : Store D → ℕ
+  birth_in store = birth_of store.journal
 
   -- how many messages wait in a store
   abbrev pub waiting_in : Store D → ℕ

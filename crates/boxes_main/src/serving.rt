@@ -1,6 +1,6 @@
 //! The command `door`: one connection over HTTP, on standard input and output.
 
-ghost use Rattle.std.specs.Prelude.{◌≡◌, ◌≢◌, ◌↔◌, IfOk, ℕ, List, [], ◌∷◌, Option, None, Some, All, map, IsSome, IsSomeAnd, IfSome};
+ghost use Rattle.std.specs.Prelude.{◌≡◌, ◌≢◌, ◌↔◌, IfOk, ℕ, List, [], ◌∷◌, Option, None, Some, All, map, is_some, IsSome, IsSomeAnd, IfSome};
 ghost use Rattle.kn_base.specs.Count.{Rose};
 ghost use Rattle.kn_base.specs.Shelf.{text_of};
 ghost use Rattle.store_journal.specs.Area.{stands};
@@ -88,7 +88,7 @@ fn serve<H: House>(alloc: Global, house: &mut H, store: Store<H::D>, room: Room<
     ensures connection { result.failure ≡ Some Failure.Connection → HasFailed (H.V.course (H.rooms house.old).visitor) (H.V.course (H.rooms house.new).visitor) }
     ensures failures { IsOfSession result.failure }
     ensures session { (birth : ℕ) (accepts : List Accept) → IsStore H.D.contents store birth accepts
-        → (told : Option Areas) → IfSome told (λ areas. StandsFor (stands areas) accepts)
+        → (told : Option Areas) → is_some (H.D.contents (disk_in store)) ≡ is_some told → IfSome told (λ areas. StandsFor (stands areas) birth accepts)
         → Served H.D.contents H.C.readings told (H.V.course (H.rooms house.old).visitor) (H.V.course (H.rooms house.new).visitor)
         (map worker_of result.workers) result.disk result.failure }
 {

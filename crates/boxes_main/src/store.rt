@@ -1,13 +1,14 @@
 //! The store that keeps messages: entries in a journal, and how many messages wait.
 
-ghost use Rattle.std.specs.Prelude.{◌≡◌, ◌≤◌, ◌+◌, List, ℕ, true, false, [], ◌∷◌, is_some, Ok, Err, IfSome, IfOk, IfErr, OnOk, All, length};
+ghost use Rattle.std.specs.Prelude.{◌≡◌, ◌≢◌, ◌≤◌, ◌+◌, List, ℕ, true, false, [], ◌∷◌, is_some, Ok, Err, IfSome, IfOk, IfErr, OnOk, All, length};
 ghost use Rattle.kn_base.specs.Count.{Rose};
 ghost use Rattle.sms_record.specs.Entry.{accept_octets};
 ghost use Rattle.sendsms_http.specs.Deeds.{MayBeHanded};
-ghost use Rattle.store_journal.specs.Area.{stands};
+ghost use Rattle.store_journal.specs.Area.{stands, unborn, born};
+ghost use Rattle.store_journal.specs.declared.area.Area.{Area};
 ghost use Rattle.store_journal.specs.Journal.{IsJournal, IsKept, HoldsMore, disk_of, left, birth_of};
-ghost use Rattle.boxes_main.specs.Accepts.{Accept, IsEntry, entry, entries, StandsFor, IsForeign};
-ghost use Rattle.boxes_main.specs.Store.{IsStore, IsOpen, GainsEntry, Refuses, RefusesAppend, disk_in, waiting_in, is_store_broken, is_by_disk};
+ghost use Rattle.boxes_main.specs.Accepts.{Accept, IsEntry, entry, entries, StandsFor, IsForeign, IsLeftAlone};
+ghost use Rattle.boxes_main.specs.Store.{IsStore, IsOpen, GainsEntry, Refuses, RefusesAppend, disk_in, birth_in, waiting_in, is_store_broken, is_by_disk};
 
 use kn_base::{Memory, Octets};
 use sendsms_http::{Acceptor, Refusal, Reply};
@@ -59,6 +60,7 @@ fn load<D: Disk>(alloc: Global, journal: Journal<D>) -> Result<Store<D>, (D, Sto
     ensures foreign { IfErr result (λ fault. fault.1 ≡ StoreFault.Foreign → (accepts : List Accept) → All IsEntry accepts → left journal ≡ entries accepts → ⊥) }
     ensures no_disk { IfErr result (λ fault. fault.1 ≡ StoreFault.Disk → ⊥) }
     ensures err_disk { IfErr result (λ fault. fault.0 ≡ disk_of journal) }
+    ensures err_stands { IfErr result (λ fault. IfSome (D.contents fault.0) (λ areas. (area : Area) × (stands areas ≡ born (birth_of journal) area (left journal)))) }
 {
     let mut journal = journal;
     let mut waiting: u64 = 0;
@@ -83,12 +85,14 @@ impl<D: Disk> Store<D> {
     /// Opens the store on a disk, and where the disk holds none yet, makes it with that birth.
     pub fn open(alloc: Global, disk: D, birth: u64) -> Result<Store<D>, (D, StoreFault)>
         ensures ok { IfOk result (λ store. (birth : ℕ) × (accepts : List Accept) × IsStore D.contents store birth accepts
-            × IfSome (D.contents disk) (λ areas. StandsFor (stands areas) accepts)) }
+            × IfSome (D.contents disk) (λ areas. StandsFor (stands areas) birth accepts)) }
+        ensures born { IfOk result (λ store. IfSome (D.contents disk) (λ areas. stands areas ≡ unborn → birth_in store ≡ birth)) }
         ensures told { IfOk result (λ store. is_some (D.contents (disk_in store)) ≡ is_some (D.contents disk)) }
         ensures unfailed { IfOk result (λ store. D.faults (disk_in store) ≡ D.faults disk) }
         ensures foreign { IfErr result (λ fault. fault.1 ≡ StoreFault.Foreign → IfSome (D.contents disk) (λ areas. IsForeign (stands areas))) }
         ensures failed { IfErr result (λ fault. fault.1 ≡ StoreFault.Disk → Rose (D.faults disk) (D.faults fault.0)) }
         ensures faults { IfErr result (λ fault. D.faults disk ≤ D.faults fault.0) }
+        ensures kept { IfErr result (λ fault. fault.1 ≢ StoreFault.Disk → IsLeftAlone (D.contents disk) (D.contents fault.0)) }
         ensures told_back { IfErr result (λ fault. is_some (D.contents fault.0) ≡ is_some (D.contents disk)) }
     {
         match Journal::open(alloc, disk, birth) {
@@ -168,7 +172,7 @@ impl<D: Disk> Store<D> {
     pub fn close(self) -> D
         ensures disk { result ≡ disk_in self }
         ensures stands { (birth : ℕ) (accepts : List Accept) → IsStore D.contents self birth accepts →
-            IfSome (D.contents result) (λ areas. StandsFor (stands areas) accepts) }
+            IfSome (D.contents result) (λ areas. StandsFor (stands areas) birth accepts) }
     {
         let Store {
             alloc: _,

@@ -1,7 +1,8 @@
-use Rattle.std.proofs.Common.{◌≡◌, ap, sym, ◌∙◌, subst, map, Some}
+use Rattle.std.proofs.Common.{◌≡◌, ap, sym, ◌∙◌, subst, map, Some, IfSome}
 use Rattle.kn_base.specs.Course.{Course}
 use Rattle.boxes_main.specs.declared.configuration.TheConstants.{STORE_FILE}
 use Rattle.boxes_main.specs.declared.failure.Failure.TheVariants as failure_is
+use Rattle.boxes_main.specs.Accepts.{IsLeftAlone}
 use Rattle.boxes_main.specs.Worker.{worker_of}
 use Rattle.boxes_main.specs.Door.{Served, unserved}
 use Rattle.boxes_main.proofs.serving.door.Goals.{in-Some, in-None}
@@ -26,6 +27,7 @@ returns-clause-session g c =
           let is : m.ended.failure ≡ Some failure_is.Usage = ap (λ r. r.failure) w.ended-is ∙ w.unserved-ended.ensures.failure in
           unserved (ap (λ r. map worker_of r.workers) w.ended-is ∙ ap (map worker_of) w.unserved-ended.ensures.workers)
           (ap (λ h. course (rooms h).visitor) w.house-is) (λ e. cc) (λ e. cc)
+          (λ _. subst (λ d. IfSome d (λ after. IsLeftAlone told (contents after))) (sym (ap (λ r. r.disk) w.ended-is ∙ w.unserved-ended.ensures.disk)) tt)
     ] in
     subst (λ (k : Course). Served contents readings told old k (map worker_of m.ended.workers) m.ended.disk m.ended.failure)
     (sym (ap (λ r. course r.visitor) (g.met.H.House.errors_room m.house c.tell.new.errors)))

@@ -1,4 +1,4 @@
-use Rattle.std.proofs.Common.{◌≡◌, Option, ap, sym, ◌∙◌, subst, refl, map}
+use Rattle.std.proofs.Common.{◌≡◌, Option, ap, sym, ◌∙◌, subst, refl, map, is_some}
 use Rattle.kn_base.specs.Course.{Course}
 use Rattle.boxes_main.specs.Worker.{worker_of}
 use Rattle.boxes_main.specs.Door.{Session, HasFailed, failure_by, served}
@@ -19,7 +19,7 @@ returns-clause-connection g c = λ is.
     (subst (λ (k : Course). HasFailed (course c.visitor.result.now) k) (sym after) failed)
 
 pub returns-clause-session : goal.returns-clause-session
-returns-clause-session g c = λ birth accepts is told stood.
+returns-clause-session g c = λ birth accepts is told tells stood.
     let course = g.H.V.Meter.course in
     let contents = g.H.D.Disk.contents in
     let readings = g.H.C.Clock.readings in
@@ -32,11 +32,11 @@ returns-clause-session g c = λ birth accepts is told stood.
     let after : new ≡ course later = ap (λ r. course r.visitor) (g.met.H.House.visitor_room c.clock-clock.new.self later) in
     let session = session_of contents g.H.D.Disk.faults c.args.store c.serve_http-end.new.acceptor birth accepts (course c.visitor.result.now) (course later)
     s.readings s.pieces s.deeds c.close.result c.is_broken.result end is s.led (sym c.is_broken.ensures) s.talk s.session c.serve_http-end.ensures.cause
-    c.close.ensures.stands in
-    let kept = subst (λ (f : Option Failure). Session contents accepts old new s.readings c.close.result f end) (sym c.failure_of-failure.ensures)
-    (subst (λ (k : Course). Session contents accepts k new s.readings c.close.result (failure_by c.is_broken.result end) end) before
-    (subst (λ (k : Course). Session contents accepts (course c.visitor.result.now) k s.readings c.close.result (failure_by c.is_broken.result end) end) (sym after) session)) in
-    served accepts is.each stood c.close.result refl end s.readings kept _
+    c.close.ensures.stands told (ap (λ d. is_some (contents d)) c.close.ensures.disk ∙ s.led.told ∙ tells) in
+    let kept = subst (λ (f : Option Failure). Session contents told birth accepts old new s.readings c.close.result f end) (sym c.failure_of-failure.ensures)
+    (subst (λ (k : Course). Session contents told birth accepts k new s.readings c.close.result (failure_by c.is_broken.result end) end) before
+    (subst (λ (k : Course). Session contents told birth accepts (course c.visitor.result.now) k s.readings c.close.result (failure_by c.is_broken.result end) end) (sym after) session)) in
+    served birth accepts is.each stood c.close.result refl end s.readings kept _
     (ap (map worker_of) (first_item c.from_vec-2.ensures c.push_reserved-2.ensures.items c.requires.room.no_workers)) (record {
       role = refl;
       clock = new_readings s.readings (readings c.clock-clock.result) (readings c.serve_http-end.new.clock) c.clock-clock.ensures.clock s.clock;

@@ -17,4 +17,4 @@ returns-in-Ok-clause-session g c =
     let r = c.serve.result in
     subst (λ (k : Course). Served g.H.D.Disk.contents g.H.C.Clock.readings told k (course (g.H.House.rooms c.serve.new.house).visitor) (map worker_of r.workers) r.disk r.failure)
     (ap (λ r. course r.visitor) c.word-birth.ensures.rooms)
-    (c.serve.ensures.session ok.0 ok.1 ok.2 told ok.3)
+    (c.serve.ensures.session ok.0 ok.1 ok.2 told c.in-Ok.ensures.told ok.3)
