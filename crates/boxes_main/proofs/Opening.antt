@@ -18,6 +18,7 @@ pub err_weaker : {A E : Type 0} (r : Result A E) (P Q : E → Type 0) → ((e : 
 err_weaker (Ok x) P Q f h = h
 err_weaker (Err e) P Q f h = f e h
 
+-- two facts of an error
 pub err_both : {A E : Type 0} (r : Result A E) (P Q : E → Type 0) → IfErr r P → IfErr r Q → IfErr r (λ e. P e × Q e)
 err_both (Ok x) P Q p q = p
 err_both (Err e) P Q p q = (p, q)

@@ -28,9 +28,9 @@ failure_by false end_is.Fault = Some Connection
 failure_by false end_is.Quiet = Some Connection
 failure_by false end_is.Memory = Some Memory
 
--- The session that was served over a store of this birth with these entries. What was said answers what was heard, each end but a whole
--- answer has its count of the visitor behind it, and unless the disk failed the disk that is handed back stands for the same
--- store with these entries and, behind them, those of the messages that were accepted.
+-- The session that was served over a store of this birth with these entries. What was said answers what was heard. Each end
+-- but a whole answer has its count of the visitor behind it. Unless the disk failed, the disk that is handed back stands for
+-- the same store with these entries and, behind them, those of the messages that were accepted.
 pub record Session
     {D : Type 0} (contents : D → Option Areas) (told : Option Areas) (birth : ℕ) (accepts : List Accept) (old new : Course)
     (readings : List ℕ) (disk : D) (failed : Option Failure) (end : HttpEnd) : Type 0 where
@@ -122,6 +122,7 @@ pub data Served
       → (failed ≢ Some Disk → IfSome disk (λ after. IsLeftAlone told (contents after)))
       → Served contents readings_of told old new workers disk failed
   served : (birth : ℕ) → (accepts : List Accept) → All IsEntry accepts → IfSome told (λ areas. StandsFor (stands areas) birth accepts)
-      → (after : D) → disk ≡ Some after → (end : HttpEnd) → (readings : List ℕ) → Session contents told birth accepts old new readings after failed end
+      → (after : D) → disk ≡ Some after → (end : HttpEnd) → (readings : List ℕ)
+      → Session contents told birth accepts old new readings after failed end
       → (worker : Worker C) → workers ≡ worker ∷ [] → IsHttpWorker readings_of worker readings end
       → Served contents readings_of told old new workers disk failed
