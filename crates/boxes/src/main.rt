@@ -5,7 +5,7 @@ use boxes_main::{Failure, HostHouse, House, door, status, tell};
 use kn_base::{Memory, Octets};
 use std::alloc::Global;
 use std::env;
-use std::fs::File;
+use std::fs::{File, Files};
 use std::io::ErrorKind;
 use std::process::ExitCode;
 use std::rt::{Env, Runtime};
@@ -30,7 +30,7 @@ fn read_words<R: Env + AllocGlobal>(rt: &R) -> Result<Vec<Octets>, Memory> {
 }
 
 /// Runs the command that the words name, and gives the status. Where there is no memory for the words, it says so.
-fn run<R: Runtime + AllocGlobal + Copy>(rt: R) -> u8 {
+fn run<R: Runtime + Files<File = File> + AllocGlobal + Copy>(rt: R) -> u8 {
     // A standard stream that was closed leaves its descriptor to the next file that is opened, which would be one of the
     // store, and the answer would be written into it. So these three stand open first.
     let _first = File::open(&rt, NULL);

@@ -3,19 +3,20 @@
 use crate::House;
 use kn_base::{HostClock, HostErrors, HostPeer, HostShelf, Memory};
 use std::alloc::Global;
+use std::fs::{File, Files};
 use std::rt::Runtime;
 use store_journal::HostDisk;
 
 /// Standard input, output and error, the machine's clock, and the files of the folder that the program runs in.
 #[derive(Drop)]
-pub struct HostHouse<R: Runtime + Copy> {
+pub struct HostHouse<R: Runtime + Files<File = File> + Copy> {
     rt: R,
     visitor: HostPeer<R>,
     shelf: HostShelf<R>,
     errors: HostErrors<R>,
 }
 
-impl<R: Runtime + Copy> HostHouse<R> {
+impl<R: Runtime + Files<File = File> + Copy> HostHouse<R> {
     /// The house before its first call.
     pub fn new(rt: R) -> HostHouse<R> {
         HostHouse {
@@ -27,7 +28,7 @@ impl<R: Runtime + Copy> HostHouse<R> {
     }
 }
 
-impl<R: Runtime + Copy> House for HostHouse<R> {
+impl<R: Runtime + Files<File = File> + Copy> House for HostHouse<R> {
     type V = HostPeer<R>;
 
     type D = HostDisk<R>;

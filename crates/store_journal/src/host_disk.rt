@@ -5,7 +5,7 @@ ghost use Rattle.std.specs.Prelude.{◌≡◌, IfOk, None};
 use crate::{Area, Disk, DiskFailed};
 use kn_base::{Memory, Octets, raised};
 use std::alloc::Global;
-use std::fs::{Files, OpenFile, OpenOptions};
+use std::fs::{File, Files, OpenOptions};
 use std::io::{self, Read, Seek, SeekFrom, Write};
 use std::path::Path;
 
@@ -14,27 +14,28 @@ const LAST_END: u64 = 1 << 62;
 
 // The file of one area: its name, the file once it is open, and whether the folder was synced since then.
 #[derive(Drop)]
-struct HostFile<F> {
+struct HostFile {
     name: Octets,
-    file: Option<F>,
+    file: Option<File>,
     is_named: bool,
 }
 
 /// The areas as the files NAME.a, NAME.b and NAME.pick, by a name that is a path. A file is opened, and
-/// made where it is missing, by the first call on its area. The first sync of an area also syncs the folder
-/// that names its file, without which a file that was made in this run could be gone after a power cut.
-/// Each error is counted.
+/// made where it is missing, by the first call on its area, and from then on locked: a call on a file that
+/// another disk holds fails, since two of them would write over each other's entries. The first sync of an
+/// area also syncs the folder that names its file, without which a file that was made in this run could be
+/// gone after a power cut. Each error is counted.
 #[derive(Drop)]
-pub struct HostDisk<R: Files> {
+pub struct HostDisk<R: Files<File = File>> {
     rt: R,
-    a: HostFile<R::File>,
-    b: HostFile<R::File>,
-    pick: HostFile<R::File>,
+    a: HostFile,
+    b: HostFile,
+    pick: HostFile,
     calls: u64,
     faults: u64,
 }
 
-impl<R: Files> HostDisk<R> {
+impl<R: Files<File = File>> HostDisk<R> {
     /// The disk of a name. It opens no file. Where the name isn't UTF-8 each call fails.
     pub fn new(alloc: Global, rt: R, name: &[u8]) -> Result<HostDisk<R>, Memory>
     where
@@ -54,10 +55,7 @@ impl<R: Files> HostDisk<R> {
 }
 
 // The file of an area, which isn't opened.
-fn host_file<F>(alloc: Global, name: &[u8], ending: &[u8]) -> Result<HostFile<F>, Memory>
-where
-    F: Drop,
-{
+fn host_file(alloc: Global, name: &[u8], ending: &[u8]) -> Result<HostFile, Memory> {
     let mut whole = Octets::from_slice(alloc, name)?;
     whole.extend_from_slice(ending)?;
     Ok(HostFile {
@@ -75,7 +73,7 @@ fn path_of(name: &[u8]) -> io::Result<&str> {
 }
 
 // Syncs the folder that names the file at a path.
-fn sync_folder<R: Files>(rt: &R, path: &str) -> io::Result<()> {
+fn sync_folder<R: Files<File = File>>(rt: &R, path: &str) -> io::Result<()> {
     let folder = match Path::new(path).parent().and_then(|folder| folder.to_str()) {
         Some(folder) if !folder.is_empty() => folder,
         _ => ".",
@@ -83,8 +81,8 @@ fn sync_folder<R: Files>(rt: &R, path: &str) -> io::Result<()> {
     OpenOptions::new().read(true).open(rt, folder)?.sync_all()
 }
 
-// The file of an area, which is opened, and made where it is missing, by the first call.
-fn opened<'a, R: Files>(rt: &R, area: &'a mut HostFile<R::File>) -> io::Result<&'a mut R::File> {
+// The file of an area, which the first call opens, makes where it is missing, and locks.
+fn opened<'a, R: Files<File = File>>(rt: &R, area: &'a mut HostFile) -> io::Result<&'a mut File> {
     if area.file.is_none() {
         let path = path_of(area.name.as_slice())?;
         let file = OpenOptions::new()
@@ -92,6 +90,7 @@ fn opened<'a, R: Files>(rt: &R, area: &'a mut HostFile<R::File>) -> io::Result<&
             .write(true)
             .create(true)
             .open(rt, path)?;
+        file.try_lock()?;
         area.file = Some(file);
     }
     match &mut area.file {
@@ -100,13 +99,13 @@ fn opened<'a, R: Files>(rt: &R, area: &'a mut HostFile<R::File>) -> io::Result<&
     }
 }
 
-fn size<R: Files>(rt: &R, area: &mut HostFile<R::File>) -> io::Result<u64> {
+fn size<R: Files<File = File>>(rt: &R, area: &mut HostFile) -> io::Result<u64> {
     opened(rt, area)?.seek(SeekFrom::End(0))
 }
 
-fn read<R: Files>(
+fn read<R: Files<File = File>>(
     rt: &R,
-    area: &mut HostFile<R::File>,
+    area: &mut HostFile,
     at: u64,
     into: &mut [u8],
 ) -> io::Result<()> {
@@ -115,13 +114,18 @@ fn read<R: Files>(
     file.read_exact(into)
 }
 
-fn write<R: Files>(rt: &R, area: &mut HostFile<R::File>, at: u64, bytes: &[u8]) -> io::Result<()> {
+fn write<R: Files<File = File>>(
+    rt: &R,
+    area: &mut HostFile,
+    at: u64,
+    bytes: &[u8],
+) -> io::Result<()> {
     let file = opened(rt, area)?;
     file.seek(SeekFrom::Start(at))?;
     file.write_all(bytes)
 }
 
-fn sync<R: Files>(rt: &R, area: &mut HostFile<R::File>) -> io::Result<()> {
+fn sync<R: Files<File = File>>(rt: &R, area: &mut HostFile) -> io::Result<()> {
     opened(rt, area)?.sync_all()?;
     if !area.is_named {
         sync_folder(rt, path_of(area.name.as_slice())?)?;
@@ -130,7 +134,7 @@ fn sync<R: Files>(rt: &R, area: &mut HostFile<R::File>) -> io::Result<()> {
     Ok(())
 }
 
-impl<R: Files> Disk for HostDisk<R> {
+impl<R: Files<File = File>> Disk for HostDisk<R> {
     ghost contents = { λ disk. None };
 
     ghost faults = { λ disk. disk.faults };

@@ -330,6 +330,24 @@ fn a_store_may_lie_in_another_folder(rt: HostRuntime) -> Result<(), Fail> {
 }
 
 #[test]
+fn a_store_that_is_held_is_refused(rt: HostRuntime) -> Result<(), Fail> {
+    let alloc = rt.alloc();
+    let disk = HostDisk::new(alloc, &rt, b"held.store")?;
+    let (disk, first) = append_to(alloc, disk, b"ab")?;
+    let second = HostDisk::new(alloc, &rt, b"held.store")?;
+    let (_second, refused) = append_to(alloc, second, b"c")?;
+    let (disk, third) = append_to(alloc, disk, b"c")?;
+    drop(disk);
+    let fourth = HostDisk::new(alloc, &rt, b"held.store")?;
+    let (_fourth, free) = append_to(alloc, fourth, b"d")?;
+    assert_eq!(rt; first, None);
+    assert_eq!(rt; refused, Some(OpenFault::Disk));
+    assert_eq!(rt; third, None);
+    assert_eq!(rt; free, None);
+    Ok(())
+}
+
+#[test]
 fn a_name_of_no_file_makes_each_call_fail(rt: HostRuntime) -> Result<(), Fail> {
     let alloc = rt.alloc();
     for name in [b"\xff".as_slice(), b"no-folder/gate.store"] {
