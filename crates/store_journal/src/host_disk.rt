@@ -7,7 +7,11 @@ use kn_base::{Memory, Octets, raised};
 use std::alloc::Global;
 use std::fs::{File, Files, OpenOptions};
 use std::io::{self, Read, Seek, SeekFrom, Write};
+use std::os::unix::fs::OpenOptionsExt;
 use std::path::Path;
+
+/// The mode of a file that is made: its owner may read and write it, since messages are nobody else's.
+const PRIVATE: u32 = 0o600;
 
 /// The last place at which a write may end, in octets.
 const LAST_END: u64 = 1 << 62;
@@ -89,6 +93,7 @@ fn opened<'a, R: Files<File = File>>(rt: &R, area: &'a mut HostFile) -> io::Resu
             .read(true)
             .write(true)
             .create(true)
+            .mode(PRIVATE)
             .open(rt, path)?;
         file.try_lock()?;
         area.file = Some(file);

@@ -7,6 +7,7 @@ ghost use Rattle.store_journal.specs.Journal.{IsKept, left};
 use super::*;
 use kn_base::{Memory, Octets};
 use std::alloc::Global;
+use std::os::unix::fs::PermissionsExt;
 use std::process::Abort;
 use std::test::Fail;
 
@@ -312,6 +313,8 @@ fn real_files_hold_a_store(rt: HostRuntime) -> Result<(), Fail> {
         std::fs::read(&rt, "gate.store.pick")?.as_slice(),
         [1].as_slice()
     );
+    let mode = std::fs::metadata(&rt, "gate.store.a")?.permissions().mode();
+    assert_eq!(rt; mode & 0o777, 0o600);
     Ok(())
 }
 
