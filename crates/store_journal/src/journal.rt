@@ -1,12 +1,13 @@
 //! The journal: payloads handed out in order at the opening, and appended one by one after it.
 
-ghost use Rattle.std.specs.Prelude.{◌≡◌, ◌<◌, ◌≤◌, ◌∷◌, [], true, is_some, length, IfSome, IfOk, IfErr, OnOk, OnErr};
+ghost use Rattle.std.specs.Prelude.{◌≡◌, ◌<◌, ◌≤◌, ◌+◌, ◌^◌, ◌∷◌, [], true, is_some, length, IfSome, IfOk, IfErr, OnOk, OnErr};
 ghost use Rattle.kn_base.specs.Count.{Rose};
+ghost use Rattle.store_journal.specs.Disk.{IsWithin, after_write};
 ghost use Rattle.store_journal.specs.Area.{IsPayload, stands, born};
 ghost use Rattle.store_journal.specs.Journal.{IsJournal, IsKept, HoldsMore, HoldsSame, AppendsUnit, disk_of, area_of, birth_of, is_broken, left, reserved, Hands, OpensAs, IsCause, IsUnlessDisk, IsUntouched};
 
 use crate::open::{Found, load};
-use crate::unit::{AROUND, payload_size, unit_and_gate};
+use crate::unit::{AROUND, CLOSED, payload_size, unit_and_gate};
 use crate::{Area, Disk, DiskFailed, OpenFault};
 use kn_base::{Memory, Octets};
 use std::alloc::Global;
@@ -26,6 +27,34 @@ pub struct Journal<D: Disk> {
     // The reserved payload in its unit, with the closed gate behind it. It is empty where none is reserved.
     unit: Vec<u8>,
     broken: bool,
+}
+
+// Writes octets to an area, and syncs it.
+fn write_synced<D: Disk>(disk: &mut D, area: Area, at: u64, octets: &[u8]) -> Result<(), DiskFailed>
+    requires some { 0 < length octets.now }
+    requires inside { IsWithin (D.contents disk.old) area at }
+    ensures written { OnOk result (D.contents disk.new ≡ after_write area at octets.now (D.contents disk.old)) }
+    ensures end { OnOk result (at + length octets.now ≤ 2 ^ 62) }
+    ensures told { is_some (D.contents disk.new) ≡ is_some (D.contents disk.old) }
+    ensures unfailed { OnOk result (D.faults disk.new ≡ D.faults disk.old) }
+    ensures failed { OnErr result (Rose (D.faults disk.old) (D.faults disk.new)) }
+    ensures faults { D.faults disk.old ≤ D.faults disk.new }
+{
+    disk.write_at(area, at, octets)?;
+    disk.sync(area)
+}
+
+// Closes the gate at a place of an area, if the disk takes that.
+fn close_gate<D: Disk>(disk: &mut D, area: Area, at: u64)
+    ensures told { is_some (D.contents disk.new) ≡ is_some (D.contents disk.old) }
+    ensures faults { D.faults disk.old ≤ D.faults disk.new }
+{
+    match disk.size(area) {
+        Ok(size) if at < size => {
+            let _ = disk.write_at(area, at, &[CLOSED]);
+        }
+        _ => {}
+    }
 }
 
 impl<D: Disk> Journal<D> {
@@ -114,7 +143,8 @@ impl<D: Disk> Journal<D> {
     }
 
     /// Appends the reserved payload in one write and one sync, and takes no memory. After `Ok` nothing
-    /// is reserved. After a fault the journal is broken: it can only be closed.
+    /// is reserved. After a fault the journal is broken: it can only be closed. The gate is then closed
+    /// again, if the disk still takes that, so that a unit that a full disk cut short isn't in the way.
     pub fn append(&mut self) -> Result<(), DiskFailed>
         requires kept { IsKept D.contents self.old }
         requires ended { left self.old ≡ [] }
@@ -132,8 +162,10 @@ impl<D: Disk> Journal<D> {
         ensures faults { D.faults (disk_of self.old) ≤ D.faults (disk_of self.new) }
     {
         self.broken = true;
-        self.disk.write_at(self.area, self.end, &self.unit)?;
-        self.disk.sync(self.area)?;
+        if let Err(failed) = write_synced(&mut self.disk, self.area, self.end, &self.unit) {
+            close_gate(&mut self.disk, self.area, self.end);
+            return Err(failed);
+        }
         self.end += self.unit.len() as u64 - 1;
         self.unit.clear();
         self.broken = false;
