@@ -254,19 +254,26 @@ fn areas_that_hold_more_than_a_birth_writes_are_foreign(rt: HostRuntime) -> Resu
     Ok(())
 }
 
-// Each of the first calls on such areas fails in turn.
+// Each of the first calls on such areas fails in turn. The last two of them are those of the append: behind these, two calls
+// more close its gate again.
 fn check_failing(
     rt: &impl Abort,
     alloc: Global,
     a: &[u8],
     pick: &[u8],
     calls: u64,
+    gate: usize,
 ) -> Result<(), Memory> {
     for call in 0..calls {
         let (disk, fault) = append_to(alloc, disk(alloc, a, b"", pick, &[call])?, b"ab")?;
+        let of_append = calls - call <= 2;
         assert_eq!(rt; fault, Some(OpenFault::Disk));
         assert_eq!(rt; disk.faults(), 1);
-        assert_eq!(rt; disk.calls(), call.saturating_add(1));
+        assert_eq!(rt;
+            disk.calls(),
+            call.saturating_add(if of_append { 3 } else { 1 })
+        );
+        assert!(rt; !of_append || disk.area(Area::A).get(gate).copied() == Some(0));
     }
     Ok(())
 }
@@ -274,8 +281,8 @@ fn check_failing(
 #[test]
 fn each_call_that_fails_is_answered_with_disk(rt: HostRuntime) -> Result<(), Fail> {
     // A birth has 9 calls, another opening 4, and an append 2.
-    check_failing(&rt, rt.alloc(), b"", b"", 11)?;
-    check_failing(&rt, rt.alloc(), &TWO, b"\x01", 6)?;
+    check_failing(&rt, rt.alloc(), b"", b"", 11, 16)?;
+    check_failing(&rt, rt.alloc(), &TWO, b"\x01", 6, 29)?;
     Ok(())
 }
 
