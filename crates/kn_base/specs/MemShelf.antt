@@ -6,6 +6,10 @@ use Rattle.kn_base.specs.declared.mem_shelf.MemShelf.{MemShelf}
 abbrev pub files_of : MemShelf → Option (List (List ℕ × List ℕ))
 files_of s = Some s.files.items
 
+-- how many calls were made
+abbrev pub calls_of : MemShelf → ℕ
+calls_of s = s.calls
+
 -- how often it failed
 abbrev pub faults_of : MemShelf → ℕ
 faults_of s = s.faults

@@ -19,11 +19,12 @@ pub struct MemShelf {
 }
 
 impl MemShelf {
-    ghost use Rattle.kn_base.specs.MemShelf.{files_of, faults_of};
+    ghost use Rattle.kn_base.specs.MemShelf.{files_of, calls_of, faults_of};
 
     /// A shelf that was asked for nothing yet. It takes no memory.
     pub fn new(_alloc: Global, files: Vec<(Octets, Octets)>, failing: Vec<u64>) -> MemShelf
         ensures files { files_of result ≡ Some files.items }
+        ensures calls { calls_of result ≡ 0 }
         ensures faults { faults_of result ≡ 0 }
     {
         MemShelf {
@@ -48,9 +49,11 @@ fn text_under<'a>(files: &'a [(Octets, Octets)], name: &[u8]) -> Option<&'a Octe
 }
 
 impl Shelf for MemShelf {
-    ghost use Rattle.kn_base.specs.MemShelf.{files_of, faults_of};
+    ghost use Rattle.kn_base.specs.MemShelf.{files_of, calls_of, faults_of};
 
     ghost files = { files_of };
+
+    ghost calls = { calls_of };
 
     ghost faults = { faults_of };
 
