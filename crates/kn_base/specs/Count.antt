@@ -5,9 +5,13 @@ use Rattle.std.specs.Prelude.{◌≡◌, ◌⊎◌, ℕ, ◌+◌, ◌-◌, ◌^�
 abbrev pub last_count : ℕ
 last_count = 2 ^ 64 - 1
 
+-- the count after one more
+abbrev pub next_count : ℕ → ℕ
+next_count count = min (count + 1) last_count
+
 -- a call raised the count by one at least, or it stood at its end
 abbrev pub Rose : ℕ → ℕ → Type 0
-Rose before now = min (before + 1) last_count ≤ now
+Rose before now = next_count before ≤ now
 
 -- How many calls had a fault, how many found no memory, how often nothing came in time, and whether it was answered that
 -- nothing more comes.

@@ -1,7 +1,7 @@
 //! Where configuration files stand.
 
-ghost use Rattle.std.specs.Prelude.{◌≡◌, ℕ, ◌≤◌, ◌+◌, min, List, Option, Some, IfOk, IfSome, IsErrOf};
-ghost use Rattle.kn_base.specs.Count.{Rose, last_count};
+ghost use Rattle.std.specs.Prelude.{◌≡◌, ℕ, ◌≤◌, List, Option, Some, IfOk, IfSome, IsErrOf};
+ghost use Rattle.kn_base.specs.Count.{Rose, next_count};
 ghost use Rattle.kn_base.specs.Shelf.{text_of};
 
 use crate::{Memory, Octets};
@@ -42,7 +42,7 @@ pub trait Shelf {
     fn file(&mut self, alloc: Global, name: &[u8]) -> Result<Octets, ShelfFault>
         ensures text { IfOk result (λ text. IfSome (files self.old) (λ all. text_of name.now all ≡ Some text)) }
         ensures files { files self.new ≡ files self.old }
-        ensures calls { calls self.new ≡ min (calls self.old + 1) last_count }
+        ensures calls { calls self.new ≡ next_count (calls self.old) }
         ensures failed { IsErrOf result ShelfFault.Failed → Rose (faults self.old) (faults self.new) }
         ensures kept { faults self.old ≤ faults self.new };
 }
