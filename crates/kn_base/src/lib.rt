@@ -19,6 +19,7 @@ mod host_errors;
 mod host_peer;
 mod host_shelf;
 mod items;
+mod mem_calls;
 mod mem_clock;
 mod mem_peer;
 mod mem_shelf;
@@ -43,6 +44,7 @@ pub use host_errors::HostErrors;
 pub use host_peer::HostPeer;
 pub use host_shelf::HostShelf;
 pub use items::Items;
+pub use mem_calls::MemCalls;
 pub use mem_clock::MemClock;
 pub use mem_peer::MemPeer;
 pub use mem_shelf::MemShelf;
@@ -56,6 +58,3 @@ pub use shelf::{Shelf, ShelfFault};
 pub use sink::{Give, Sink};
 pub use source::{Source, Take};
 pub use writing::{Wrote, write_all};
-
-#[cfg(test)]
-mod tests;
