@@ -1,9 +1,10 @@
 -- Reading elements one after the other, as a loop does.
 use Rattle.std.proofs.Common.{◌≡◌, ℕ, zero, suc, ◌+◌, ◌-◌, ◌<◌, ◌≤◌, List, [], ◌∷◌, length, Result, Ok, Err, refl, sym, ◌∙◌, arith}
-use Rattle.sms_record.specs.declared.reading.fault.ReadFault.{ReadFault}
-use Rattle.sms_record.specs.declared.reading.fault.ReadFault.TheVariants as faults
+use Rattle.exact_octets.specs.declared.read_fault.ReadFault.{ReadFault}
+use Rattle.exact_octets.specs.declared.read_fault.ReadFault.TheVariants as faults
 use Rattle.sms_record.specs.Header.{Element}
-use Rattle.sms_record.specs.Reading.{Fails, behind, made, both, given, element_at, elements_at}
+use Rattle.exact_octets.specs.Reading.{Fails, behind, made, both, given}
+use Rattle.sms_record.specs.Reading.{element_at, elements_at}
 
 -- an element more before others leaves the same behind
 behind_more : (e : Element) (read : Result (List Element × List ℕ) ReadFault) → behind (made (λ (x : Element × List Element). x.0 ∷ x.1) (both (given e) (λ x octets. read)) []) ≡ behind read

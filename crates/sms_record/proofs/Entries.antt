@@ -4,14 +4,15 @@ use Rattle.std.specs.List.{flat_map, AllByRecursion}
 use Rattle.std.specs.Int.{w16, w64, to_be_bytes}
 use Rattle.std.proofs.lemmas.List.Elements.{All-from_recursion, recursion_from_All}
 use Rattle.sms_record.specs.declared.sms.Sms.{Sms}
-use Rattle.sms_record.specs.Alphabet.{within}
+use Rattle.exact_octets.specs.Alphabet.{within}
 use Rattle.sms_record.specs.Record.{IsSms, sms_octets}
 use Rattle.sms_record.specs.Entry.{IsAccept, accept_octets}
-use Rattle.sms_record.specs.Reading.{Reader, both, octet_at, number_at, sms_at, whole_time_of, whole_time_at, parts_at, accept_of, accept_at}
-use Rattle.sms_record.proofs.Readers.{IsReader, both_reads, made_reads, repeated_reads}
-use Rattle.sms_record.proofs.Fields.{Between, between_reads, IsNumber, number_reads}
+use Rattle.exact_octets.specs.Reading.{Reader, both, octet_at, number_at}
+use Rattle.sms_record.specs.Reading.{sms_at, whole_time_of, whole_time_at, parts_at, accept_of, accept_at}
+use Rattle.exact_octets.proofs.Readers.{IsReader, both_reads, made_reads, repeated_reads}
+use Rattle.exact_octets.proofs.Fields.{Between, between_reads, IsNumber, number_reads}
 use Rattle.sms_record.proofs.Messages.{sms_reads}
-use Rattle.sms_record.proofs.Fronts.{one_spelling}
+use Rattle.exact_octets.proofs.Fronts.{one_spelling}
 
 abbrev IsPair : ℕ → Type 0
 IsPair = IsNumber 0 65535 false

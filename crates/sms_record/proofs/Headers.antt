@@ -3,15 +3,16 @@ use Rattle.std.proofs.Common.{◌≡◌, ℕ, zero, suc, ◌+◌, ◌-◌, ◌�
 use Rattle.std.specs.Prelude.{not, ⊤}
 use Rattle.std.proofs.lemmas.Bool.{leb-true, le-leb, ne_eqb, eqb-false, not-true}
 use Rattle.std.proofs.lemmas.List.{take_at, drop_at, nil_from_length}
-use Rattle.sms_record.specs.declared.reading.fault.ReadFault.{ReadFault}
-use Rattle.sms_record.specs.declared.reading.fault.ReadFault.TheVariants as faults
-use Rattle.sms_record.specs.declared.reading.alphabet.Alphabet.TheVariants.{Any}
-use Rattle.sms_record.specs.Alphabet.{within, is_in}
+use Rattle.exact_octets.specs.declared.read_fault.ReadFault.{ReadFault}
+use Rattle.exact_octets.specs.declared.read_fault.ReadFault.TheVariants as faults
+use Rattle.exact_octets.specs.declared.alphabet.Alphabet.TheVariants.{Any}
+use Rattle.exact_octets.specs.Alphabet.{within, is_in}
 use Rattle.sms_record.specs.Header.{Element, element, elements, IsHeaderOrNone}
-use Rattle.sms_record.specs.Record.{short}
-use Rattle.sms_record.specs.Reading.{Fails, behind, both, made, given, octet_at, octets_at, is_value_len, element_of, element_at, elements_at, header_of_len_at, is_header_len, header_at}
-use Rattle.sms_record.proofs.Readers.{AreOctets, Answers, IsReader, given_reads, both_reads, made_reads, octet_reads, renamed_reads}
-use Rattle.sms_record.proofs.Fields.{and_true, both_true, within_means, within_tests, Between, between_reads, Text, any_reads}
+use Rattle.exact_octets.specs.Spelling.{short}
+use Rattle.exact_octets.specs.Reading.{Fails, behind, both, made, given, octet_at, octets_at}
+use Rattle.sms_record.specs.Reading.{is_value_len, element_of, element_at, elements_at, header_of_len_at, is_header_len, header_at}
+use Rattle.exact_octets.proofs.Readers.{AreOctets, Answers, IsReader, given_reads, both_reads, made_reads, octet_reads, renamed_reads}
+use Rattle.exact_octets.proofs.Fields.{and_true, both_true, within_means, within_tests, Between, between_reads, Text, any_reads}
 
 -- how many octets the value of an element may have, where so many are left
 abbrev pub IsValueLen : ℕ → ℕ → Type 0

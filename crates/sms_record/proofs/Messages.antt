@@ -10,17 +10,20 @@ use Rattle.sms_record.specs.declared.address.Address.TheVariants.{Number, Text a
 use Rattle.sms_record.specs.declared.coding.Coding.{Coding}
 use Rattle.sms_record.specs.declared.coding.Coding.TheVariants.{Seven, Eight, Ucs2}
 use Rattle.sms_record.specs.declared.sms.Sms.{Sms}
-use Rattle.sms_record.specs.declared.reading.alphabet.Alphabet.TheVariants.{Any, Septet, Digit}
+use Rattle.exact_octets.specs.declared.alphabet.Alphabet.TheVariants.{Any, Septet, Digit}
 use Rattle.sms_record.specs.declared.reading.shape.Marks.{Marks}
 use Rattle.sms_record.specs.declared.reading.shape.Times.{Times}
 use Rattle.sms_record.specs.declared.reading.shape.Heading.{Heading}
 use Rattle.sms_record.specs.declared.reading.shape.Names.{Names}
 use Rattle.sms_record.specs.declared.reading.shape.Contents.{Contents}
-use Rattle.sms_record.specs.Alphabet.{within}
-use Rattle.sms_record.specs.Record.{IsDigit, IsAddress, IsOfCoding, IsSms, short, long, address, coding_code, class_code, charset_code, sms_octets}
-use Rattle.sms_record.specs.Reading.{Reader, both, octet_at, number_at, short_at, long_at, address_text_at, address_of, address_at, coding_of, charset_of, class_of, coding_at, charset_at, class_at, marks_of, marks_at, minutes_at, time_of, time_at, times_of, times_at, heading_of, heading_at, header_at, body_at, names_of, names_at, contents_of, contents_at, sms_of, sms_at}
-use Rattle.sms_record.proofs.Readers.{IsReader, both_reads, made_reads, octet_reads, renamed_reads}
-use Rattle.sms_record.proofs.Fields.{within_means, within_tests, Between, between_reads, any_reads, septets_reads, digits_reads, IsNumber, number_reads, short_reads, long_reads}
+use Rattle.exact_octets.specs.Alphabet.{within}
+use Rattle.exact_octets.specs.Spelling.{short, long}
+use Rattle.exact_octets.specs.Alphabet.{IsDigit}
+use Rattle.sms_record.specs.Record.{IsAddress, IsOfCoding, IsSms, address, coding_code, class_code, charset_code, sms_octets}
+use Rattle.exact_octets.specs.Reading.{Reader, both, octet_at, number_at, short_at, long_at}
+use Rattle.sms_record.specs.Reading.{address_text_at, address_of, address_at, coding_of, charset_of, class_of, coding_at, charset_at, class_at, marks_of, marks_at, minutes_at, time_of, time_at, times_of, times_at, heading_of, heading_at, header_at, body_at, names_of, names_at, contents_of, contents_at, sms_of, sms_at}
+use Rattle.exact_octets.proofs.Readers.{IsReader, both_reads, made_reads, octet_reads, renamed_reads}
+use Rattle.exact_octets.proofs.Fields.{within_means, within_tests, Between, between_reads, any_reads, septets_reads, digits_reads, IsNumber, number_reads, short_reads, long_reads}
 use Rattle.sms_record.proofs.Headers.{IsUdh, header_reads}
 
 -- ---- addresses

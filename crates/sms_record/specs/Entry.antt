@@ -1,5 +1,5 @@
 -- The journal's entry of kind 01, Accept: messages that were taken at one time.
-use Rattle.std.specs.Prelude.{ℕ, ◌+◌, ◌<◌, ◌≤◌, ◌^◌, List, ◌∷◌, ◌++◌, length, All, sum_by}
+use Rattle.std.specs.Prelude.{◌≡◌, ℕ, ◌+◌, ◌<◌, ◌≤◌, ◌^◌, List, ◌∷◌, ◌++◌, length, All, sum_by}
 use Rattle.std.specs.List.{flat_map}
 use Rattle.std.specs.Int.{w16, w64, to_be_bytes}
 use Rattle.sms_record.specs.declared.sms.Sms.{Sms}
@@ -19,3 +19,11 @@ accept_octets time parts = 1 ∷ (to_be_bytes w64 time ++ (to_be_bytes w16 (leng
 -- how many octets the entry has
 abbrev pub accept_size : List Sms → ℕ
 accept_size parts = 11 + sum_by (λ sms. length (sms_octets sms)) parts
+
+-- octets that are an entry
+abbrev pub IsEntry : List ℕ → Type 0
+IsEntry octets = (accept : ℕ × List Sms) × IsAccept accept.0 accept.1 × (octets ≡ accept_octets accept.0 accept.1)
+
+-- the octets are the entry of messages that were taken at a time
+abbrev pub IsAcceptOf : List ℕ → ℕ → List Sms → Type 0
+IsAcceptOf octets time parts = IsAccept time parts × (octets ≡ accept_octets time parts)

@@ -1,5 +1,5 @@
 -- Reading from left to right: a value and the octets behind it, or the first fault that is met.
-use Rattle.std.specs.Prelude.{◌≡◌, ℕ, zero, suc, ◌+◌, ◌*◌, ◌/◌, ◌-◌, ◌%◌, ◌≤◌, Bool, true, false, ◌&&◌, ◌||◌, not, List, [], ◌∷◌, length, Option, Some, None, Result, Ok, Err, nat_lt, nat_le, ◌==◌, if◌then◌else◌}
+use Rattle.std.specs.Prelude.{ℕ, zero, suc, ◌+◌, ◌*◌, ◌-◌, ◌≤◌, Bool, true, false, ◌&&◌, ◌||◌, not, List, [], ◌∷◌, length, Option, Some, None, nat_lt, nat_le, ◌==◌, if◌then◌else◌}
 use Rattle.kn_base.specs.declared.charset.Charset.{Charset}
 use Rattle.kn_base.specs.declared.charset.Charset.TheVariants.{Utf8, Latin1, Utf16Be}
 use Rattle.sms_record.specs.declared.address.Address.{Address}
@@ -7,85 +7,16 @@ use Rattle.sms_record.specs.declared.address.Address.TheVariants.{Number, Text}
 use Rattle.sms_record.specs.declared.coding.Coding.{Coding}
 use Rattle.sms_record.specs.declared.coding.Coding.TheVariants.{Seven, Eight, Ucs2}
 use Rattle.sms_record.specs.declared.sms.Sms.{Sms}
-use Rattle.sms_record.specs.declared.reading.alphabet.Alphabet.{Alphabet}
-use Rattle.sms_record.specs.declared.reading.alphabet.Alphabet.TheVariants.{Any, Septet, Digit}
+use Rattle.exact_octets.specs.declared.alphabet.Alphabet.{Alphabet}
+use Rattle.exact_octets.specs.declared.alphabet.Alphabet.TheVariants.{Any, Septet, Digit}
 use Rattle.sms_record.specs.declared.reading.shape.Marks.{Marks}
 use Rattle.sms_record.specs.declared.reading.shape.Times.{Times}
 use Rattle.sms_record.specs.declared.reading.shape.Heading.{Heading}
 use Rattle.sms_record.specs.declared.reading.shape.Names.{Names}
 use Rattle.sms_record.specs.declared.reading.shape.Contents.{Contents}
-use Rattle.sms_record.specs.declared.reading.fault.ReadFault.{ReadFault}
-use Rattle.sms_record.specs.declared.reading.fault.ReadFault.TheVariants as faults
-use Rattle.sms_record.specs.declared.fault.RecordFault.{RecordFault}
-use Rattle.sms_record.specs.declared.fault.RecordFault.TheVariants as told
-use Rattle.sms_record.specs.Alphabet.{within, is_in}
+use Rattle.exact_octets.specs.Alphabet.{within, is_in}
+use Rattle.exact_octets.specs.Reading.{Reader, both, made, given, repeated, octet_at, octets_at, number_at, short_at, long_at}
 use Rattle.sms_record.specs.Header.{Element, elements}
-
--- a reader: octets to a value and what stands behind it
-abbrev pub Reader : Type 0 → Type 0
-Reader A = List ℕ → Result (A × List ℕ) ReadFault
-
-infixl 10 ◌>>=◌
--- the first fault ends it
-abbrev pub ◌>>=◌ : {A B : Type 0} → Result A ReadFault → (A → Result B ReadFault) → Result B ReadFault
-(Ok x) >>= f = f x
-(Err e) >>= f = Err e
-
--- that reading failed so, unless memory ran out
-abbrev pub Fails : {Y : Type 0} → ReadFault → Result Y ReadFault → Type 0
-Fails faults.Memory read = Unit {0}
-Fails faults.Short read = read ≡ Err faults.Short
-Fails (faults.Malformed left) read = read ≡ Err (faults.Malformed left)
-
--- what a function returned, seen by view, is what reading gives, unless memory ran out
-abbrev pub Gives : {X Y : Type 0} → (X → Y) → Result X ReadFault → Result Y ReadFault → Type 0
-Gives view (Ok x) read = read ≡ Ok (view x)
-Gives view (Err e) read = Fails e read
-
--- a value, and a second one behind it that may hang on the first
-abbrev pub both : {A B : Type 0} → Reader A → (A → Reader B) → Reader (A × B)
-both first second octets = first octets >>= λ x. second x.0 x.1 >>= λ y. Ok ((x.0, y.0), y.1)
-
--- a value made of what is read
-abbrev pub made : {A B : Type 0} → (A → B) → Reader A → Reader B
-made f read octets = read octets >>= λ x. Ok (f x.0, x.1)
-
--- what stands behind the value alone
-abbrev pub behind : {A : Type 0} → Result (A × List ℕ) ReadFault → Result (List ℕ) ReadFault
-behind read = read >>= λ x. Ok x.1
-
--- a value that takes no octets
-abbrev pub given : {A : Type 0} → A → Reader A
-given value octets = Ok (value, octets)
-
--- so many values, one after the other
-unfoldable pub repeated : {A : Type 0} → Reader A → ℕ → Reader (List A)
-repeated read zero = given []
-repeated read (suc n) = made (λ x. x.0 ∷ x.1) (both read (λ x. repeated read n))
-
--- one octet that is allowed
-abbrev pub octet_at : (ℕ → Bool) → Reader ℕ
-octet_at allowed [] = Err faults.Short
-octet_at allowed (octet ∷ rest) = if allowed octet then Ok (octet, rest) else Err (faults.Malformed (suc (length rest)))
-
--- so many octets of an alphabet
-abbrev pub octets_at : Alphabet → ℕ → Reader (List ℕ)
-octets_at alphabet = repeated (octet_at (is_in alphabet))
-
--- a number of two octets between two bounds, the high one first, and even where that is asked for
-unfoldable pub number_at : ℕ → ℕ → Bool → Reader ℕ
-number_at least most even =
-    made (λ x. x.0 * 256 + x.1)
-    (both (octet_at (within (least / 256) (most / 256)))
-    (λ high. octet_at (λ low. within least most (high * 256 + low) && (not even || low % 2 == 0))))
-
--- octets behind one octet that says how many they are
-unfoldable pub short_at : ℕ → ℕ → Alphabet → Reader (List ℕ)
-short_at least most alphabet = made (λ x. x.1) (both (octet_at (within least most)) (octets_at alphabet))
-
--- octets behind two octets that say how many they are
-unfoldable pub long_at : ℕ → Bool → Alphabet → Reader (List ℕ)
-long_at most even alphabet = made (λ x. x.1) (both (number_at 0 most even) (octets_at alphabet))
 
 -- ---- addresses
 
@@ -260,33 +191,6 @@ sms_of heading contents = record {
 unfoldable pub sms_at : Reader Sms
 sms_at = made (λ x. sms_of x.0 x.1) (both heading_at (λ heading. contents_at heading.marks.coding))
 
--- ---- what is told of it
-
--- a value and how many octets it takes, or a fault by how many octets stand before it, unless memory ran out
-abbrev pub Tells : {A : Type 0} → Result (A × ℕ) RecordFault → List ℕ → Result (A × List ℕ) ReadFault → Type 0
-Tells (Ok x) octets read = (rest : List ℕ) × (read ≡ Ok (x.0, rest)) × (x.1 + length rest ≡ length octets)
-Tells (Err told.Short) octets read = read ≡ Err faults.Short
-Tells (Err (told.Malformed at)) octets read = (left : ℕ) × (read ≡ Err (faults.Malformed left)) × (at + left ≡ length octets)
-Tells (Err told.Memory) octets read = Unit {0}
-
--- the same where nothing may stand behind the value
-abbrev pub TellsAll : {A : Type 0} → Result A RecordFault → List ℕ → Result A ReadFault → Type 0
-TellsAll (Ok x) octets read = read ≡ Ok x
-TellsAll (Err told.Short) octets read = read ≡ Err faults.Short
-TellsAll (Err (told.Malformed at)) octets read = (left : ℕ) × (read ≡ Err (faults.Malformed left)) × (at + left ≡ length octets)
-TellsAll (Err told.Memory) octets read = Unit {0}
-
--- a fault that has its place among so many octets
-abbrev pub IsPlaced : ℕ → ReadFault → Type 0
-IsPlaced len faults.Short = Unit {0}
-IsPlaced len (faults.Malformed left) = left ≤ len
-IsPlaced len faults.Memory = Unit {0}
-
-abbrev pub told_of : ℕ → ReadFault → RecordFault
-told_of len faults.Short = told.Short
-told_of len (faults.Malformed left) = told.Malformed (len - left)
-told_of len faults.Memory = told.Memory
-
 -- ---- the entry
 
 abbrev pub whole_time_of : ℕ × (ℕ × (ℕ × ℕ)) → ℕ
@@ -307,11 +211,3 @@ accept_of x = (x.1.0, x.1.1.1)
 
 unfoldable pub accept_at : Reader (ℕ × List Sms)
 accept_at = made accept_of (both (octet_at (within 1 1)) (λ kind. both whole_time_at (λ time. both (number_at 1 5000 false) parts_at)))
-
-abbrev pub nothing_behind : {A : Type 0} → A → List ℕ → Result A ReadFault
-nothing_behind value [] = Ok value
-nothing_behind value (octet ∷ rest) = Err (faults.Malformed (suc (length rest)))
-
--- a value with nothing behind it
-abbrev pub all_of : {A : Type 0} → Reader A → List ℕ → Result A ReadFault
-all_of read octets = read octets >>= λ x. nothing_behind x.0 x.1

@@ -1,6 +1,8 @@
 -- What a message may hold, and the octets that it is kept as.
-use Rattle.std.specs.Prelude.{◌≡◌, ℕ, ◌<◌, ◌≤◌, ◌^◌, ◌%◌, ⊤, List, [], ◌∷◌, ◌++◌, length, All, Option, Some, None, IfSome, if◌then◌else◌}
-use Rattle.std.specs.Int.{w16, w32, w64, to_be_bytes}
+use Rattle.std.specs.Prelude.{◌≡◌, ℕ, take, ◌<◌, ◌≤◌, ◌^◌, ◌%◌, ⊤, List, [], ◌∷◌, ◌++◌, length, All, Option, Some, None, IfSome, if◌then◌else◌}
+use Rattle.std.specs.Int.{w32, w64, to_be_bytes}
+pub use Rattle.exact_octets.specs.Alphabet.{IsDigit}
+pub use Rattle.exact_octets.specs.Spelling.{short, long}
 use Rattle.kn_base.specs.declared.charset.Charset.{Charset}
 use Rattle.kn_base.specs.declared.charset.Charset.TheVariants.{Utf8, Latin1, Utf16Be}
 use Rattle.sms_record.specs.declared.address.Address.{Address}
@@ -9,10 +11,6 @@ use Rattle.sms_record.specs.declared.coding.Coding.{Coding}
 use Rattle.sms_record.specs.declared.coding.Coding.TheVariants.{Seven, Eight, Ucs2}
 use Rattle.sms_record.specs.declared.sms.Sms.{Sms}
 use Rattle.sms_record.specs.Header.{IsHeaderOrNone}
-
--- a decimal digit in ASCII
-abbrev pub IsDigit : ℕ → Type 0
-IsDigit octet = (48 ≤ octet) × (octet ≤ 57)
 
 -- a number has 1 to 15 digits (ITU-T E.164, section 6), a text at most 64 octets
 abbrev pub IsAddress : Address → Type 0
@@ -44,14 +42,6 @@ pub record IsSms (sms : Sms) : Type 0 where
   pub url : length sms.url ≤ 2048
   pub account : length sms.account ≤ 64
   pub service : length sms.service ≤ 64
-
--- octets behind one octet that says how many they are
-abbrev pub short : List ℕ → List ℕ
-short octets = length octets ∷ octets
-
--- octets behind two octets that say how many they are, the high one first
-abbrev pub long : List ℕ → List ℕ
-long octets = to_be_bytes w16 (length octets) ++ octets
 
 -- a kind, 0 for a number, 1 for a number behind a `+`, 2 for a text, and the digits or the text
 abbrev pub address : Address → List ℕ
@@ -98,3 +88,11 @@ contents sms = short sms.udh ++ (long sms.body ++ names sms)
 -- the record of a message
 abbrev pub sms_octets : Sms → List ℕ
 sms_octets sms = heading sms ++ contents sms
+
+-- octets that are the record of a message
+abbrev pub IsRecord : List ℕ → Type 0
+IsRecord octets = (sms : Sms) × IsSms sms × (octets ≡ sms_octets sms)
+
+-- a message stands at the front of the octets, and so many octets are its record
+abbrev pub StandsFirst : List ℕ → Sms → ℕ → Type 0
+StandsFirst octets sms len = IsSms sms × (len ≡ length (sms_octets sms)) × (take len octets ≡ sms_octets sms)

@@ -1,17 +1,17 @@
 //! A message out of the octets that it is kept as.
 
 ghost use Rattle.std.specs.Prelude.{◌≡◌, ℕ, List, ◌++◌, length, IfOk, IfErr};
-ghost use Rattle.sms_record.specs.declared.fault.RecordFault.TheVariants.{Short, Malformed};
+ghost use Rattle.exact_octets.specs.declared.record_fault.RecordFault.TheVariants.{Short, Malformed};
 ghost use Rattle.sms_record.specs.declared.sms.Sms.{Sms};
 ghost use Rattle.sms_record.specs.Record.{IsSms, sms_octets};
-ghost use Rattle.sms_record.specs.Fronts.{IsRecord, IsProperFront, BreaksOffAt, ExplainsNoFirst, FailsSo, ReadsSo, StandsFirst};
-ghost use Rattle.sms_record.specs.Reading.{Gives, Tells, heading_at as heading_front, sms_of as sms_from, sms_at as sms_front};
+ghost use Rattle.exact_octets.specs.Fronts.{IsProperFront, BreaksOffAt, ExplainsNoFirst, FailsSo, ReadsSo};
+ghost use Rattle.sms_record.specs.Record.{IsRecord, StandsFirst};
+ghost use Rattle.exact_octets.specs.Reading.{Gives};
+ghost use Rattle.exact_octets.specs.Telling.{Tells};
+ghost use Rattle.sms_record.specs.Reading.{heading_at as heading_front, sms_of as sms_from, sms_at as sms_front};
 
 mod address;
-mod alphabet;
 mod contents;
-pub(crate) mod fault;
-pub(crate) mod fields;
 mod header;
 mod marks;
 mod shape;
@@ -20,7 +20,7 @@ mod times;
 use crate::{RecordFault, Sms};
 use address::address_at;
 use contents::contents_at;
-use fault::{ReadFault, told_of};
+use exact_octets::{ReadFault, told_of};
 use marks::marks_at;
 use shape::{Contents, Heading};
 use std::alloc::Global;

@@ -1,11 +1,13 @@
 //! A message as the octets that it is kept as.
 
 ghost use Rattle.std.specs.Prelude.{◌≡◌, ◌<◌, ◌++◌, length, OnOk, OnErr};
-ghost use Rattle.sms_record.specs.Record.{IsSms, IsAddress, address, short, long, marks, times, heading, names, contents, sms_octets, coding_code, class_code, charset_code};
-ghost use Rattle.sms_record.specs.Growth.{Keeps};
+ghost use Rattle.exact_octets.specs.Spelling.{short, long};
+ghost use Rattle.sms_record.specs.Record.{IsSms, IsAddress, address, marks, times, heading, names, contents, sms_octets, coding_code, class_code, charset_code};
+ghost use Rattle.exact_octets.specs.Growth.{Keeps};
 
 use crate::limits::NO_CLASS;
 use crate::{Address, Coding, Sms};
+use exact_octets::{put_long, put_short};
 use kn_base::{Charset, Memory, Octets};
 
 fn code_of_coding(coding: Coding) -> u8
@@ -35,24 +37,6 @@ fn code_of_charset(charset: Charset) -> u8
         Charset::Latin1 => 1,
         Charset::Utf16Be => 2,
     }
-}
-
-fn put_short(into: &mut Octets, octets: &[u8]) -> Result<(), Memory>
-    requires { length octets.now < 256 }
-    ensures ok { OnOk result (into.new ≡ into.old ++ short octets.now) }
-    ensures err { OnErr result (Keeps into.old into.new) }
-{
-    into.push(octets.len() as u8)?;
-    into.extend_from_slice(octets)
-}
-
-fn put_long(into: &mut Octets, octets: &[u8]) -> Result<(), Memory>
-    requires { length octets.now < 65536 }
-    ensures ok { OnOk result (into.new ≡ into.old ++ long octets.now) }
-    ensures err { OnErr result (Keeps into.old into.new) }
-{
-    into.extend_from_slice(&(octets.len() as u16).to_be_bytes())?;
-    into.extend_from_slice(octets)
 }
 
 fn put_address(into: &mut Octets, from_or_to: &Address) -> Result<(), Memory>

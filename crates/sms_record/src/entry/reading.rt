@@ -1,17 +1,19 @@
 //! An entry out of the octets that the journal keeps.
 
 ghost use Rattle.std.specs.Prelude.{◌≡◌, ℕ, List, ◌++◌, length, IfOk, IfErr};
-ghost use Rattle.sms_record.specs.declared.fault.RecordFault.TheVariants.{Short, Malformed};
+ghost use Rattle.exact_octets.specs.declared.record_fault.RecordFault.TheVariants.{Short, Malformed};
 ghost use Rattle.sms_record.specs.declared.sms.Sms.{Sms};
 ghost use Rattle.sms_record.specs.Entry.{IsAccept, accept_octets};
-ghost use Rattle.sms_record.specs.Fronts.{IsEntry, IsProperFront, GoesWrongAt, ExplainsNone, FailsSo, ReadsSo, IsAcceptOf};
-ghost use Rattle.sms_record.specs.Reading.{Gives, TellsAll, whole_time_at as whole_time_front, parts_at as parts_front, accept_at as accept_front, all_of};
+ghost use Rattle.exact_octets.specs.Fronts.{IsProperFront, GoesWrongAt, ExplainsNone, FailsSo, ReadsSo};
+ghost use Rattle.sms_record.specs.Entry.{IsEntry, IsAcceptOf};
+ghost use Rattle.exact_octets.specs.Reading.{Gives};
+ghost use Rattle.exact_octets.specs.Telling.{TellsAll, all_of};
+ghost use Rattle.sms_record.specs.Reading.{whole_time_at as whole_time_front, parts_at as parts_front, accept_at as accept_front};
 
 use crate::limits::MOST_MESSAGES;
-use crate::reading::fault::{ReadFault, told_of};
-use crate::reading::fields::{number_at, octet_at};
 use crate::reading::sms_at;
 use crate::{RecordFault, Sms};
+use exact_octets::{ReadFault, number_at, octet_at, told_of};
 use kn_base::Items;
 use std::alloc::Global;
 

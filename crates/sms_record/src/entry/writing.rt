@@ -4,7 +4,7 @@ ghost use Rattle.std.specs.Prelude.{◌≡◌, ◌+◌, ◌++◌, length, All, O
 ghost use Rattle.std.specs.List.{flat_map};
 ghost use Rattle.sms_record.specs.Record.{IsSms, sms_octets};
 ghost use Rattle.sms_record.specs.Entry.{IsAccept, accept_octets, accept_size};
-ghost use Rattle.sms_record.specs.Growth.{Keeps};
+ghost use Rattle.exact_octets.specs.Growth.{Keeps};
 
 use crate::Sms;
 use crate::writing::put_sms;

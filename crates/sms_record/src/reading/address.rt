@@ -1,13 +1,12 @@
 //! An address out of its octets.
 
 ghost use Rattle.std.specs.Prelude.{◌≡◌, IfOk};
-ghost use Rattle.sms_record.specs.Reading.{Gives, address_at as address_front, address_of as address_from, address_text_at as address_text_front};
+ghost use Rattle.exact_octets.specs.Reading.{Gives};
+ghost use Rattle.sms_record.specs.Reading.{address_at as address_front, address_of as address_from, address_text_at as address_text_front};
 
 use crate::Address;
 use crate::limits::{MOST_DIGITS, MOST_TEXT};
-use crate::reading::alphabet::Alphabet;
-use crate::reading::fault::ReadFault;
-use crate::reading::fields::{octet_at, short_at};
+use exact_octets::{Alphabet, ReadFault, octet_at, short_at};
 use kn_base::{Memory, Octets};
 use std::alloc::Global;
 

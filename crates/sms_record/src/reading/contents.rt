@@ -1,15 +1,14 @@
 //! The fields of any length: the header, the body, and the names.
 
 ghost use Rattle.std.specs.Prelude.{◌≡◌};
-ghost use Rattle.sms_record.specs.Reading.{Gives, alphabet_of as alphabet_from, is_even as is_even_body, body_at as body_front, names_at as names_front, contents_at as contents_front};
+ghost use Rattle.exact_octets.specs.Reading.{Gives};
+ghost use Rattle.sms_record.specs.Reading.{alphabet_of as alphabet_from, is_even as is_even_body, body_at as body_front, names_at as names_front, contents_at as contents_front};
 
 use crate::Coding;
 use crate::limits::{MOST_BODY, MOST_NAME, MOST_URL};
-use crate::reading::alphabet::Alphabet;
-use crate::reading::fault::ReadFault;
-use crate::reading::fields::{long_at, short_at};
 use crate::reading::header::header_at;
 use crate::reading::shape::{Contents, Names};
+use exact_octets::{Alphabet, ReadFault, long_at, short_at};
 use kn_base::Octets;
 use std::alloc::Global;
 

@@ -1,14 +1,13 @@
 //! A user data header out of its octets.
 
 ghost use Rattle.std.specs.Prelude.{◌≡◌, ◌≢◌, ◌+◌, ◌≤◌, length, IfOk};
-ghost use Rattle.sms_record.specs.declared.reading.alphabet.Alphabet.TheVariants.{Any};
-ghost use Rattle.sms_record.specs.Alphabet.{is_in as is_among};
-ghost use Rattle.sms_record.specs.Reading.{Gives, octet_at as octet_front, is_value_len, is_header_len, behind, element_of, element_at as element_front, elements_at as elements_front, header_of_len_at as header_of_len_front, header_at as header_front};
+ghost use Rattle.exact_octets.specs.declared.alphabet.Alphabet.TheVariants.{Any};
+ghost use Rattle.exact_octets.specs.Alphabet.{is_in as is_among};
+ghost use Rattle.exact_octets.specs.Reading.{Gives, octet_at as octet_front, behind};
+ghost use Rattle.sms_record.specs.Reading.{is_value_len, is_header_len, element_of, element_at as element_front, elements_at as elements_front, header_of_len_at as header_of_len_front, header_at as header_front};
 
 use crate::limits::MOST_HEADER;
-use crate::reading::alphabet::Alphabet;
-use crate::reading::fault::ReadFault;
-use crate::reading::fields::{octet_at, octets_at};
+use exact_octets::{Alphabet, ReadFault, octet_at, octets_at};
 
 /// How many octets the value of an element has, where `left` are left from its id on.
 fn value_len_at(octets: &[u8], left: usize) -> Result<(u8, &[u8]), ReadFault>

@@ -1,13 +1,13 @@
 //! The octets that say how a message is to be read.
 
 ghost use Rattle.std.specs.Prelude.{◌≡◌};
-ghost use Rattle.sms_record.specs.Reading.{Gives, coding_at as coding_front, class_at as class_front, charset_at as charset_front, marks_at as marks_front, coding_of as coding_from, charset_of as charset_from};
+ghost use Rattle.exact_octets.specs.Reading.{Gives};
+ghost use Rattle.sms_record.specs.Reading.{coding_at as coding_front, class_at as class_front, charset_at as charset_front, marks_at as marks_front, coding_of as coding_from, charset_of as charset_from};
 
 use crate::Coding;
 use crate::limits::{LAST_CLASS, MOST_MASK, MOST_PARTS, NO_CLASS};
-use crate::reading::fault::ReadFault;
-use crate::reading::fields::octet_at;
 use crate::reading::shape::Marks;
+use exact_octets::{ReadFault, octet_at};
 use kn_base::Charset;
 
 fn coding_of(code: u8) -> Coding

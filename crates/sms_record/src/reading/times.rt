@@ -1,12 +1,12 @@
 //! The numbers that say when a message counts.
 
 ghost use Rattle.std.specs.Prelude.{◌≡◌};
-ghost use Rattle.sms_record.specs.Reading.{Gives, minutes_at as minutes_front, time_at as time_front, times_at as times_front};
+ghost use Rattle.exact_octets.specs.Reading.{Gives};
+ghost use Rattle.sms_record.specs.Reading.{minutes_at as minutes_front, time_at as time_front, times_at as times_front};
 
 use crate::limits::MOST_MINUTES;
-use crate::reading::fault::ReadFault;
-use crate::reading::fields::{number_at, octet_at};
 use crate::reading::shape::Times;
+use exact_octets::{ReadFault, number_at, octet_at};
 
 /// A number of four octets, at most 43,200.
 #[tactic(auto, unfolding(crate::specs::Reading::minutes_at))]

@@ -2,7 +2,7 @@ use Rattle.std.proofs.Common.{arith, length, ◌≤◌}
 use Rattle.sms_record.specs.Record.{IsSms, sms_octets}
 use Rattle.sms_record.specs.Reading.{sms_at}
 use Rattle.sms_record.proofs.Messages.{sms_reads}
-use Rattle.sms_record.proofs.Fronts.{rest_within, is_placed, tells_failed}
+use Rattle.exact_octets.proofs.Fronts.{rest_within, is_placed, tells_failed}
 use Rattle.sms_record.proofs.reading.first_sms.Goals as goal
 
 pub overflow_sub-result : goal.overflow_sub-result

@@ -2,7 +2,7 @@ use Rattle.std.proofs.Common.{arith}
 use Rattle.sms_record.specs.Record.{IsSms, sms_octets}
 use Rattle.sms_record.specs.Reading.{sms_at}
 use Rattle.sms_record.proofs.Messages.{sms_reads}
-use Rattle.sms_record.proofs.Fronts.{tells_found, tells_only, tells_fault, tells_short, tells_malformed}
+use Rattle.exact_octets.proofs.Fronts.{tells_found, tells_only, tells_fault, tells_short, tells_malformed}
 use Rattle.sms_record.proofs.reading.read_sms.Goals as goal
 
 pub returns-clause-found : goal.returns-clause-found

@@ -1,7 +1,7 @@
 use Rattle.std.proofs.Common.{rules}
 use Rattle.std.proofs.lemmas.Result.{on_ok_weaker}
 use Rattle.sms_record.specs.Record.{address, marks, times}
-use Rattle.sms_record.proofs.Growing.{grown4}
+use Rattle.exact_octets.proofs.Growing.{grown4}
 use Rattle.sms_record.proofs.writing.put_heading.Goals as goal
 
 pub returns-clause-ok : goal.returns-clause-ok

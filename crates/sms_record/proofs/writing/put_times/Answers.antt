@@ -1,7 +1,7 @@
 use Rattle.std.proofs.Common.{rules}
 use Rattle.std.specs.Int.{w32, w64, to_be_bytes}
 use Rattle.std.proofs.lemmas.Result.{on_ok_weaker}
-use Rattle.sms_record.proofs.Growing.{grown3}
+use Rattle.exact_octets.proofs.Growing.{grown3}
 use Rattle.sms_record.proofs.writing.put_times.Goals as goal
 
 pub returns-clause-ok : goal.returns-clause-ok

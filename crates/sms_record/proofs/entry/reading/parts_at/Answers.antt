@@ -1,6 +1,6 @@
 use Rattle.std.proofs.lemmas.Result.{err_from_is_err_and}
 use Rattle.sms_record.specs.Reading.{sms_at, parts_at}
-use Rattle.sms_record.proofs.Many.{goes_on, ends, is_done}
+use Rattle.exact_octets.proofs.Many.{goes_on, ends, is_done}
 use Rattle.sms_record.proofs.entry.reading.parts_at.Goals as goal
 
 pub returns-in_err-sms : goal.returns-in_err-sms

@@ -1,6 +1,6 @@
 use Rattle.std.proofs.Common.{◌≡◌, ◌-◌}
 use Rattle.sms_record.specs.Reading.{sms_at, parts_at}
-use Rattle.sms_record.proofs.Many.{with_front}
+use Rattle.exact_octets.proofs.Many.{with_front}
 use Rattle.sms_record.proofs.entry.reading.parts_at.Given as goal
 
 abbrev pub invariant-loop : goal.invariant-loop

@@ -1,7 +1,7 @@
 use Rattle.std.proofs.Common.{arith}
 use Rattle.sms_record.specs.Reading.{accept_at}
 use Rattle.sms_record.proofs.Entries.{IsAcceptPair, accept_pair_octets, accept_reads}
-use Rattle.sms_record.proofs.Fronts.{all_found, all_only, all_fault, all_short, all_malformed}
+use Rattle.exact_octets.proofs.Fronts.{all_found, all_only, all_fault, all_short, all_malformed}
 use Rattle.sms_record.proofs.entry.reading.read_accept.Goals as goal
 
 pub returns-clause-found : goal.returns-clause-found

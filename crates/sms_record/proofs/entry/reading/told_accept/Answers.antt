@@ -1,7 +1,8 @@
 use Rattle.std.proofs.Common.{arith}
-use Rattle.sms_record.specs.Reading.{accept_at, all_of}
+use Rattle.exact_octets.specs.Telling.{all_of}
+use Rattle.sms_record.specs.Reading.{accept_at}
 use Rattle.sms_record.proofs.Entries.{IsAcceptPair, accept_pair_octets, accept_reads}
-use Rattle.sms_record.proofs.Fronts.{all_placed, tells_all_failed}
+use Rattle.exact_octets.proofs.Fronts.{all_placed, tells_all_failed}
 use Rattle.sms_record.proofs.entry.reading.told_accept.Goals as goal
 
 pub told_of-requires : goal.told_of-requires

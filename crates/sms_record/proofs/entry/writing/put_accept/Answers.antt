@@ -3,7 +3,7 @@ use Rattle.std.specs.List.{flat_map}
 use Rattle.std.specs.Int.{w16, w64, to_be_bytes}
 use Rattle.std.proofs.lemmas.Result.{on_ok_weaker}
 use Rattle.sms_record.specs.Record.{sms_octets}
-use Rattle.sms_record.proofs.Growing.{grown4}
+use Rattle.exact_octets.proofs.Growing.{grown4}
 use Rattle.sms_record.proofs.entry.writing.put_accept.Goals as goal
 
 pub returns-clause-ok : goal.returns-clause-ok

@@ -1,5 +1,5 @@
 use Rattle.sms_record.specs.Record.{sms_octets}
-use Rattle.sms_record.proofs.Growing.{item_more}
+use Rattle.exact_octets.proofs.Growing.{item_more}
 use Rattle.sms_record.proofs.entry.writing.put_parts.Goals as goal
 
 pub loop-sms-preserved : goal.loop-sms-preserved

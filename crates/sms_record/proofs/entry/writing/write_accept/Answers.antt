@@ -1,7 +1,7 @@
 use Rattle.std.proofs.Common.{◌∙◌, ap, length, ◌+◌, length-append}
 use Rattle.std.proofs.lemmas.Result.{on_ok_weaker}
 use Rattle.sms_record.specs.Entry.{accept_octets}
-use Rattle.sms_record.proofs.Growing.{length-accept_octets}
+use Rattle.sms_record.proofs.Sizes.{length-accept_octets}
 use Rattle.sms_record.proofs.entry.writing.write_accept.Goals as goal
 
 pub returns-else-is_err-clause-size : goal.returns-else-is_err-clause-size

@@ -1,6 +1,7 @@
 use Rattle.std.proofs.Common.{arith}
 use Rattle.std.proofs.lemmas.Result.{err_from_is_err_and}
-use Rattle.sms_record.specs.Reading.{behind, element_of, elements_at}
+use Rattle.exact_octets.specs.Reading.{behind}
+use Rattle.sms_record.specs.Reading.{element_of, elements_at}
 use Rattle.sms_record.proofs.Elements.{element_read, element_failed, elements_done}
 use Rattle.sms_record.proofs.reading.header.elements_at.Goals as goal
 

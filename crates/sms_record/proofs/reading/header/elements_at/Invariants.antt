@@ -1,5 +1,6 @@
 use Rattle.std.proofs.Common.{◌≡◌, ℕ, ◌≤◌}
-use Rattle.sms_record.specs.Reading.{behind, elements_at}
+use Rattle.exact_octets.specs.Reading.{behind}
+use Rattle.sms_record.specs.Reading.{elements_at}
 use Rattle.sms_record.proofs.reading.header.elements_at.Given as goal
 
 abbrev pub invariant-loop-left : goal.invariant-loop-left

@@ -5,12 +5,13 @@ use Rattle.std.specs.List.{flat_map, AllByRecursion}
 use Rattle.std.specs.Int.{w16, to_be_bytes}
 use Rattle.std.proofs.lemmas.Bool.{leb-true, le-leb, eqb-true, eq-eqb, ltb-true, lt-ltb}
 use Rattle.std.proofs.lemmas.List.Elements.{All-from_recursion, recursion_from_All}
-use Rattle.sms_record.specs.declared.reading.alphabet.Alphabet.{Alphabet}
-use Rattle.sms_record.specs.declared.reading.alphabet.Alphabet.TheVariants.{Any, Septet, Digit}
-use Rattle.sms_record.specs.Alphabet.{within, is_in}
-use Rattle.sms_record.specs.Record.{IsDigit, short, long}
-use Rattle.sms_record.specs.Reading.{both, octet_at, octets_at, number_at, short_at, long_at}
-use Rattle.sms_record.proofs.Readers.{IsReader, both_reads, made_reads, octet_reads, repeated_reads, renamed_reads}
+use Rattle.exact_octets.specs.declared.alphabet.Alphabet.{Alphabet}
+use Rattle.exact_octets.specs.declared.alphabet.Alphabet.TheVariants.{Any, Septet, Digit}
+use Rattle.exact_octets.specs.Alphabet.{within, is_in}
+use Rattle.exact_octets.specs.Spelling.{short, long}
+use Rattle.exact_octets.specs.Alphabet.{IsDigit}
+use Rattle.exact_octets.specs.Reading.{both, octet_at, octets_at, number_at, short_at, long_at}
+use Rattle.exact_octets.proofs.Readers.{IsReader, both_reads, made_reads, octet_reads, repeated_reads, renamed_reads}
 
 pub and_true : (a b : Bool) → (a && b) ≡ true → (a ≡ true) × (b ≡ true)
 and_true true b e = (refl, e)

@@ -2,9 +2,9 @@
 use Rattle.std.proofs.Common.{◌≡◌, ℕ, zero, suc, ◌+◌, ◌<◌, Bool, true, false, cond, List, [], ◌∷◌, ◌++◌, length, get_or, Result, Ok, Err, refl, sym, ap, subst, ◌∙◌, append_assoc, arith, inl, inr, ◌⊎◌}
 use Rattle.std.proofs.lemmas.List.{get_or-append-add}
 use Rattle.std.specs.List.{flat_map, AllByRecursion}
-use Rattle.sms_record.specs.declared.reading.fault.ReadFault.{ReadFault}
-use Rattle.sms_record.specs.declared.reading.fault.ReadFault.TheVariants as faults
-use Rattle.sms_record.specs.Reading.{◌>>=◌, Reader, both, made, given, octet_at, repeated}
+use Rattle.exact_octets.specs.declared.read_fault.ReadFault.{ReadFault}
+use Rattle.exact_octets.specs.declared.read_fault.ReadFault.TheVariants as faults
+use Rattle.exact_octets.specs.Reading.{◌>>=◌, Reader, both, made, given, octet_at, repeated}
 
 -- octets are numbers below 256
 abbrev pub AreOctets : List ℕ → Type 0

@@ -1,18 +1,7 @@
 -- Octets that a spelling begins with, and where octets cease to begin one. G says which octets are a spelling.
 use Rattle.std.specs.Prelude.{◌≡◌, ◌≢◌, ℕ, ◌+◌, ◌<◌, ⊤, List, [], ◌++◌, length, take, Result, Ok, Err}
-use Rattle.sms_record.specs.declared.fault.RecordFault.{RecordFault}
-use Rattle.sms_record.specs.declared.fault.RecordFault.TheVariants.{Short, Malformed, Memory}
-use Rattle.sms_record.specs.declared.sms.Sms.{Sms}
-use Rattle.sms_record.specs.Record.{IsSms, sms_octets}
-use Rattle.sms_record.specs.Entry.{IsAccept, accept_octets}
-
--- octets that are the record of a message
-abbrev pub IsRecord : List ℕ → Type 0
-IsRecord octets = (sms : Sms) × IsSms sms × (octets ≡ sms_octets sms)
-
--- octets that are an entry
-abbrev pub IsEntry : List ℕ → Type 0
-IsEntry octets = (accept : ℕ × List Sms) × IsAccept accept.0 accept.1 × (octets ≡ accept_octets accept.0 accept.1)
+use Rattle.exact_octets.specs.declared.record_fault.RecordFault.{RecordFault}
+use Rattle.exact_octets.specs.declared.record_fault.RecordFault.TheVariants.{Short, Malformed, Memory}
 
 -- the octets begin a spelling: with more behind them, or none, they are one
 pub record Begins (G : List ℕ → Type 0) (octets : List ℕ) : Type 0 where
@@ -62,11 +51,3 @@ ReadsSo (Ok x) value = x ≡ value
 ReadsSo (Err Short) value = ⊥
 ReadsSo (Err (Malformed at)) value = ⊥
 ReadsSo (Err Memory) value = ⊤
-
--- a message stands at the front of the octets, and so many octets are its record
-abbrev pub StandsFirst : List ℕ → Sms → ℕ → Type 0
-StandsFirst octets sms len = IsSms sms × (len ≡ length (sms_octets sms)) × (take len octets ≡ sms_octets sms)
-
--- the octets are the entry of messages that were taken at a time
-abbrev pub IsAcceptOf : List ℕ → ℕ → List Sms → Type 0
-IsAcceptOf octets time parts = IsAccept time parts × (octets ≡ accept_octets time parts)

@@ -1,9 +1,9 @@
 -- Reading so many values one after the other, as a loop does.
 use Rattle.std.proofs.Common.{◌≡◌, ℕ, suc, ◌+◌, ◌-◌, ◌<◌, ◌≤◌, List, [], ◌∷◌, ◌++◌, Result, Ok, Err, refl, sym, ap, ◌∙◌, append_assoc, arith}
 use Rattle.std.proofs.lemmas.List.{append-nil}
-use Rattle.sms_record.specs.declared.reading.fault.ReadFault.{ReadFault}
-use Rattle.sms_record.specs.declared.reading.fault.ReadFault.TheVariants as faults
-use Rattle.sms_record.specs.Reading.{Reader, Fails, both, made, given, repeated}
+use Rattle.exact_octets.specs.declared.read_fault.ReadFault.{ReadFault}
+use Rattle.exact_octets.specs.declared.read_fault.ReadFault.TheVariants as faults
+use Rattle.exact_octets.specs.Reading.{Reader, Fails, both, made, given, repeated}
 
 module _ {A : Type 0} (read : Reader A) where
   -- what was read before, and what is still read

@@ -1,7 +1,7 @@
 -- Which octets a field may have.
-use Rattle.std.specs.Prelude.{ℕ, Bool, true, nat_lt, nat_le, ◌&&◌}
-use Rattle.sms_record.specs.declared.reading.alphabet.Alphabet.{Alphabet}
-use Rattle.sms_record.specs.declared.reading.alphabet.Alphabet.TheVariants.{Any, Septet, Digit}
+use Rattle.std.specs.Prelude.{ℕ, ◌≤◌, Bool, true, nat_lt, nat_le, ◌&&◌}
+use Rattle.exact_octets.specs.declared.alphabet.Alphabet.{Alphabet}
+use Rattle.exact_octets.specs.declared.alphabet.Alphabet.TheVariants.{Any, Septet, Digit}
 
 -- between two bounds, and at each of them
 abbrev pub within : ℕ → ℕ → ℕ → Bool
@@ -12,3 +12,7 @@ abbrev pub is_in : Alphabet → ℕ → Bool
 is_in Any octet = true
 is_in Septet octet = nat_lt octet 128
 is_in Digit octet = within 48 57 octet
+
+-- a decimal digit in ASCII
+abbrev pub IsDigit : ℕ → Type 0
+IsDigit octet = (48 ≤ octet) × (octet ≤ 57)

@@ -1,8 +1,8 @@
 -- Reading so many octets of an alphabet: what it gives by the first octet that is outside.
 use Rattle.std.proofs.Common.{◌≡◌, ℕ, zero, suc, ◌-◌, ◌<◌, ◌≤◌, Bool, true, false, List, [], ◌∷◌, length, take, drop, get_or, Result, Ok, Err, refl, ap, arith}
-use Rattle.sms_record.specs.declared.reading.fault.ReadFault.{ReadFault}
-use Rattle.sms_record.specs.declared.reading.fault.ReadFault.TheVariants as faults
-use Rattle.sms_record.specs.Reading.{octet_at, repeated}
+use Rattle.exact_octets.specs.declared.read_fault.ReadFault.{ReadFault}
+use Rattle.exact_octets.specs.declared.read_fault.ReadFault.TheVariants as faults
+use Rattle.exact_octets.specs.Reading.{octet_at, repeated}
 
 -- all are there, and allowed
 pub all_allowed : (allowed : ℕ → Bool) (n : ℕ) (octets : List ℕ) → n ≤ length octets → ((k : ℕ) → k < n → allowed (get_or octets k 0) ≡ true) → repeated (octet_at allowed) n octets ≡ Ok (take n octets, drop n octets)

@@ -1,8 +1,8 @@
 use Rattle.std.proofs.Common.{arith, ◌<◌, length-take, sym, ap, ◌∙◌}
 use Rattle.std.proofs.lemmas.List.{get_or-take}
-use Rattle.sms_record.specs.Alphabet.{is_in}
-use Rattle.sms_record.proofs.Octets.{all_allowed, too_few, not_allowed}
-use Rattle.sms_record.proofs.reading.fields.octets_at.Goals as goal
+use Rattle.exact_octets.specs.Alphabet.{is_in}
+use Rattle.exact_octets.proofs.Octets.{all_allowed, too_few, not_allowed}
+use Rattle.exact_octets.proofs.text.octets_at.Goals as goal
 
 pub returns-then-not-is_in-clause-gives : goal.returns-then-not-is_in-clause-gives
 returns-then-not-is_in-clause-gives c =

@@ -1,13 +1,16 @@
 //! Which octets the text of a field may have.
 
 ghost use Rattle.std.specs.Prelude.{◌≡◌};
-ghost use Rattle.sms_record.specs.Alphabet.{is_in as is_among};
+ghost use Rattle.exact_octets.specs.Alphabet.{is_in as is_among};
 
-/// The octets that a field is made of.
+/// The octets that a text is made of.
 #[derive(Clone, Copy)]
-pub(crate) enum Alphabet {
+pub enum Alphabet {
+    /// Any octet.
     Any,
+    /// Septets: octets below 128.
     Septet,
+    /// Decimal digits in ASCII.
     Digit,
 }
 

@@ -1,11 +1,7 @@
 -- What stands after several things were put behind octets.
-use Rattle.std.proofs.Common.{◌≡◌, ℕ, ◌+◌, ◌<◌, List, [], ◌∷◌, ◌++◌, length, take, get_or, ◌∙◌, sym, ap, append_assoc, arith}
+use Rattle.std.proofs.Common.{◌≡◌, ℕ, ◌+◌, ◌<◌, List, [], ◌∷◌, ◌++◌, length, take, get_or, ◌∙◌, sym, ap, append_assoc}
 use Rattle.std.specs.List.{flat_map}
 use Rattle.std.proofs.lemmas.List.{take_more, flat_map_more}
-use Rattle.std.proofs.lemmas.List.Concat.{length-flat_map}
-use Rattle.sms_record.specs.declared.sms.Sms.{Sms}
-use Rattle.sms_record.specs.Record.{sms_octets}
-use Rattle.sms_record.specs.Entry.{accept_octets, accept_size}
 
 -- two things, one after the other
 pub grown2 : (a b c x y : List ℕ) → b ≡ a ++ x → c ≡ b ++ y → c ≡ a ++ (x ++ y)
@@ -24,7 +20,3 @@ pub item_more : {X : Type 0} (f : X → List ℕ) (base before after : List ℕ)
 item_more f base before after xs i x lt is e g =
     let more : take (i + 1) xs ≡ take i xs ++ x ∷ [] = take_more xs i x lt ∙ ap (λ y. take i xs ++ y ∷ []) (sym is) in
     rw more (g ∙ ap (λ (t : List ℕ). t ++ f x) e ∙ flat_map_more f base (take i xs) x)
-
--- an entry has as many octets as its size says
-pub length-accept_octets : (time : ℕ) (parts : List Sms) → length (accept_octets time parts) ≡ accept_size parts
-length-accept_octets time parts = omega (arith, length-flat_map sms_octets parts)

@@ -3,13 +3,14 @@ use Rattle.std.proofs.Common.{◌≡◌, ℕ, zero, suc, ◌+◌, ◌-◌, ◌�
 use Rattle.std.specs.Prelude.{IfOk, IfErr}
 use Rattle.std.proofs.lemmas.List.{append-nil, take_at, take-take, take-append-le}
 use Rattle.std.proofs.lemmas.Bool.{cases_lt}
-use Rattle.sms_record.specs.declared.reading.fault.ReadFault.{ReadFault}
-use Rattle.sms_record.specs.declared.reading.fault.ReadFault.TheVariants as faults
-use Rattle.sms_record.specs.declared.fault.RecordFault.{RecordFault}
-use Rattle.sms_record.specs.declared.fault.RecordFault.TheVariants as told
-use Rattle.sms_record.specs.Reading.{◌>>=◌, Reader, Fails, Tells, TellsAll, IsPlaced, told_of, nothing_behind, all_of}
-use Rattle.sms_record.specs.Fronts.{Begins, IsProperFront, BreaksOffAt, GoesWrongAt, ExplainsNoFirst, ExplainsNone, FailsSo, ReadsSo}
-use Rattle.sms_record.proofs.Readers.{AreOctets, Begun, Lacking, Wrong, Answers, IsReader, ok_is}
+use Rattle.exact_octets.specs.declared.read_fault.ReadFault.{ReadFault}
+use Rattle.exact_octets.specs.declared.read_fault.ReadFault.TheVariants as faults
+use Rattle.exact_octets.specs.declared.record_fault.RecordFault.{RecordFault}
+use Rattle.exact_octets.specs.declared.record_fault.RecordFault.TheVariants as told
+use Rattle.exact_octets.specs.Reading.{◌>>=◌, Reader, Fails}
+use Rattle.exact_octets.specs.Telling.{Tells, TellsAll, IsPlaced, told_of, nothing_behind, all_of}
+use Rattle.exact_octets.specs.Fronts.{Begins, IsProperFront, BreaksOffAt, GoesWrongAt, ExplainsNoFirst, ExplainsNone, FailsSo, ReadsSo}
+use Rattle.exact_octets.proofs.Readers.{AreOctets, Begun, Lacking, Wrong, Answers, IsReader, ok_is}
 
 nothing_last : (a b : List ℕ) → a ++ b ≡ [] → b ≡ []
 nothing_last [] b e = e

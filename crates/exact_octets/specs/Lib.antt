@@ -1,0 +1,6 @@
+pub mod Alphabet
+pub mod Reading
+pub mod Telling
+pub mod Fronts
+pub mod Growth
+pub mod Spelling
