@@ -1,15 +1,14 @@
 -- What an exact reader tells: where a spelling stands, and where octets cease to begin one.
 use Rattle.std.proofs.Common.{◌≡◌, ℕ, zero, suc, ◌+◌, ◌-◌, ◌≤◌, List, [], ◌∷◌, ◌++◌, length, take, drop, Result, Ok, Err, refl, sym, ap, subst, ◌∙◌, append_assoc, length-append, take-append-drop, arith, inl, inr}
-use Rattle.std.specs.Prelude.{IfOk, IfErr}
+use Rattle.std.specs.Borrow.{Bor}
 use Rattle.std.proofs.lemmas.List.{append-nil, take_at, take-take, take-append-le}
 use Rattle.std.proofs.lemmas.Bool.{cases_lt}
 use Rattle.exact_octets.specs.declared.read_fault.ReadFault.{ReadFault}
 use Rattle.exact_octets.specs.declared.read_fault.ReadFault.TheVariants as faults
-use Rattle.exact_octets.specs.declared.record_fault.RecordFault.{RecordFault}
 use Rattle.exact_octets.specs.declared.record_fault.RecordFault.TheVariants as told
-use Rattle.exact_octets.specs.Reading.{◌>>=◌, Reader, Fails}
-use Rattle.exact_octets.specs.Telling.{Tells, TellsAll, IsPlaced, told_of, nothing_behind, all_of}
-use Rattle.exact_octets.specs.Fronts.{Begins, IsProperFront, BreaksOffAt, GoesWrongAt, ExplainsNoFirst, ExplainsNone, FailsSo, ReadsSo}
+use Rattle.exact_octets.specs.Reading.{Reader, Gives}
+use Rattle.exact_octets.specs.Telling.{IsWithin, first_told, behind_told, all_told}
+use Rattle.exact_octets.specs.Fronts.{Begins, IsProperFront, BreaksOffAt, GoesWrongAt, IsSpelled, ReadsFirst, ReadsAll}
 use Rattle.exact_octets.proofs.Readers.{AreOctets, Begun, Lacking, Wrong, Answers, IsReader, ok_is}
 
 nothing_last : (a b : List ℕ) → a ++ b ≡ [] → b ≡ []
@@ -26,28 +25,20 @@ take_past (x ∷ a) b (suc n) le =
 abbrev pair : {A : Type 0} → A → ℕ → A × ℕ
 pair a n = (a, n)
 
--- what reading the whole may answer
-abbrev pub AnswersAll : {A : Type 0} → (A → Type 0) → (A → List ℕ) → List ℕ → Result A ReadFault → Type 0
-AnswersAll Good spelled octets (Ok a) = Good a × (octets ≡ spelled a)
-AnswersAll Good spelled octets (Err faults.Short) = Lacking Good spelled octets
-AnswersAll Good spelled octets (Err (faults.Malformed left)) = Wrong Good spelled octets left
-AnswersAll Good spelled octets (Err faults.Memory) = ⊥
-
 module _ {A : Type 0} (Good : A → Type 0) (spelled : A → List ℕ) where
-  -- octets that are spelled
-  abbrev pub IsSpelled : List ℕ → Type 0
-  IsSpelled octets = (a : A) × Good a × (octets ≡ spelled a)
+  abbrev Spelled : List ℕ → Type 0
+  Spelled = IsSpelled Good spelled
 
-  begins_from : (front : List ℕ) → Begun Good spelled front → Begins IsSpelled front
+  begins_from : (front : List ℕ) → Begun Good spelled front → Begins Spelled front
   begins_from front b = record { more = b.more; whole = (b.value, b.good, b.whole) }
 
-  begun_from : (front : List ℕ) → Begins IsSpelled front → Begun Good spelled front
+  begun_from : (front : List ℕ) → Begins Spelled front → Begun Good spelled front
   begun_from front b = record { value = b.whole.0; more = b.more; good = b.whole.1; whole = b.whole.2 }
 
-  pub proper_front : (octets : List ℕ) → Lacking Good spelled octets → IsProperFront IsSpelled octets
+  pub proper_front : (octets : List ℕ) → Lacking Good spelled octets → IsProperFront Spelled octets
   proper_front octets h = record { more = h.more; some = h.some; whole = (h.value, h.good, h.whole) }
 
-  pub goes_wrong : (octets : List ℕ) (at left : ℕ) → at + left ≡ length octets → Wrong Good spelled octets left → GoesWrongAt IsSpelled octets at
+  pub goes_wrong : (octets : List ℕ) (at left : ℕ) → at + left ≡ length octets → Wrong Good spelled octets left → GoesWrongAt Spelled octets at
   goes_wrong octets at left place h =
       let len : length h.front ≡ at = omega (arith, ap length h.parts, length-append h.front (h.octet ∷ h.rest), h.at) in
       let front : take at octets ≡ h.front = ap (take at) h.parts ∙ take_at h.front (h.octet ∷ h.rest) at len in
@@ -56,8 +47,8 @@ module _ {A : Type 0} (Good : A → Type 0) (spelled : A → List ℕ) where
       let front' : take (at + 1) octets ≡ h.front ++ h.octet ∷ [] = ap (take (at + 1)) parts' ∙ take_at (h.front ++ h.octet ∷ []) h.rest (at + 1) len' in
       record {
         there = omega (arith, h.at);
-        begins = subst (Begins IsSpelled) (sym front) (begins_from h.front h.begins);
-        ends = λ b. h.ends (begun_from (h.front ++ h.octet ∷ []) (subst (Begins IsSpelled) front' b));
+        begins = subst (Begins Spelled) (sym front) (begins_from h.front h.begins);
+        ends = λ b. h.ends (begun_from (h.front ++ h.octet ∷ []) (subst (Begins Spelled) front' b));
       }
 
   -- how many octets are left at a fault is at most how many there are
@@ -73,27 +64,27 @@ module _ {A : Type 0} (Good : A → Type 0) (spelled : A → List ℕ) where
         (ap (λ (p : A × List ℕ). p.0) pair, ap (λ (p : A × List ℕ). p.1) pair)
 
     -- a spelling with something behind it is no front of a spelling's front
-    not_lacking : (octets : List ℕ) (a : A) (rest : List ℕ) → Good a → octets ≡ spelled a ++ rest → IsProperFront IsSpelled octets → ⊥
+    not_lacking : (octets : List ℕ) (a : A) (rest : List ℕ) → Good a → octets ≡ spelled a ++ rest → IsProperFront Spelled octets → ⊥
     not_lacking octets a rest good parts h =
         let one : spelled a ++ (rest ++ h.more) ≡ spelled h.whole.0 ++ [] = sym (append_assoc (spelled a) rest h.more) ∙ ap (λ (t : List ℕ). t ++ h.more) (sym parts) ∙ h.whole.2 ∙ sym (append-nil (spelled h.whole.0)) in
         let same = one_spelling a h.whole.0 (rest ++ h.more) [] good h.whole.1 one in
         h.some (nothing_last rest h.more same.1)
 
     -- octets that begin a spelling up to a place begin one up to each earlier place
-    begins_earlier : (octets : List ℕ) (m n : ℕ) → m ≤ n → Begins IsSpelled (take n octets) → Begins IsSpelled (take m octets)
+    begins_earlier : (octets : List ℕ) (m n : ℕ) → m ≤ n → Begins Spelled (take n octets) → Begins Spelled (take m octets)
     begins_earlier octets m n le b =
         let parts : take m octets ++ drop m (take n octets) ≡ take n octets = ap (λ (t : List ℕ). t ++ drop m (take n octets)) (sym (take-take m n octets le)) ∙ take-append-drop m (take n octets) in
         let one : take m octets ++ (drop m (take n octets) ++ b.more) ≡ take n octets ++ b.more = sym (append_assoc (take m octets) (drop m (take n octets)) b.more) ∙ ap (λ (t : List ℕ). t ++ b.more) parts in
         record { more = drop m (take n octets) ++ b.more; whole = (b.whole.0, b.whole.1, one ∙ b.whole.2) }
 
     -- octets that begin a spelling begin one up to each place
-    begins_within : (octets more : List ℕ) (m : ℕ) → IsSpelled (octets ++ more) → Begins IsSpelled (take m octets)
+    begins_within : (octets more : List ℕ) (m : ℕ) → Spelled (octets ++ more) → Begins Spelled (take m octets)
     begins_within octets more m s =
         let one : take m octets ++ (drop m octets ++ more) ≡ octets ++ more = sym (append_assoc (take m octets) (drop m octets) more) ∙ ap (λ (t : List ℕ). t ++ more) (take-append-drop m octets) in
         record { more = drop m octets ++ more; whole = (s.0, s.1, one ∙ s.2) }
 
     -- the place where octets cease to begin a spelling is the only one
-    same_place : (octets : List ℕ) (at at' : ℕ) → Begins IsSpelled (take at octets) → (Begins IsSpelled (take (at + 1) octets) → ⊥) → Begins IsSpelled (take at' octets) → (Begins IsSpelled (take (at' + 1) octets) → ⊥) → at ≡ at'
+    same_place : (octets : List ℕ) (at at' : ℕ) → Begins Spelled (take at octets) → (Begins Spelled (take (at + 1) octets) → ⊥) → Begins Spelled (take at' octets) → (Begins Spelled (take (at' + 1) octets) → ⊥) → at ≡ at'
     same_place octets at at' b e b' e' =
         elim (cases_lt at at') [
           | inl lt ↦ absurd (e (begins_earlier octets (at + 1) at' (omega arith) b'))
@@ -104,7 +95,7 @@ module _ {A : Type 0} (Good : A → Type 0) (spelled : A → List ℕ) where
         ]
 
     -- a wrong octet stands behind a proper front
-    breaks_off : (octets : List ℕ) (at left : ℕ) → at + left ≡ length octets → read octets ≡ Err (faults.Malformed left) → Wrong Good spelled octets left → BreaksOffAt IsSpelled octets at
+    breaks_off : (octets : List ℕ) (at left : ℕ) → at + left ≡ length octets → read octets ≡ Err (faults.Malformed left) → Wrong Good spelled octets left → BreaksOffAt Spelled octets at
     breaks_off octets at left place failed h =
         let w = goes_wrong octets at left place h in
         record {
@@ -122,41 +113,23 @@ module _ {A : Type 0} (Good : A → Type 0) (spelled : A → List ℕ) where
         }
 
     -- where a spelling stands first, no octet of it is wrong
-    not_broken : (octets : List ℕ) (at : ℕ) (a : A) (rest : List ℕ) → Good a → octets ≡ spelled a ++ rest → BreaksOffAt IsSpelled octets at → ⊥
+    not_broken : (octets : List ℕ) (at : ℕ) (a : A) (rest : List ℕ) → Good a → octets ≡ spelled a ++ rest → BreaksOffAt Spelled octets at → ⊥
     not_broken octets at a rest good parts h =
         elim (cases_lt at (length (spelled a))) [
           | inl lt ↦
               let front : take (at + 1) octets ≡ take (at + 1) (spelled a) = ap (take (at + 1)) parts ∙ take-append-le (at + 1) (spelled a) rest (omega arith) in
-              let b : Begins IsSpelled (take (at + 1) (spelled a)) = record { more = drop (at + 1) (spelled a); whole = (a, good, take-append-drop (at + 1) (spelled a)) } in
-              h.ends (subst (Begins IsSpelled) (sym front) b)
+              let b : Begins Spelled (take (at + 1) (spelled a)) = record { more = drop (at + 1) (spelled a); whole = (a, good, take-append-drop (at + 1) (spelled a)) } in
+              h.ends (subst (Begins Spelled) (sym front) b)
           | inr le ↦
               let len : length (spelled a) ≤ at = le in
               let front : take at octets ≡ spelled a ++ take (at - length (spelled a)) rest = ap (take at) parts ∙ take_past (spelled a) rest at len in
               not_lacking (take at octets) a (take (at - length (spelled a)) rest) good front h.begins
         ]
 
-    -- ---- reading at the front
+    -- ---- what is told of what was read
 
-    pub tells_found : (r : Result (A × ℕ) RecordFault) (octets : List ℕ) → AreOctets octets → Tells r octets (read octets) → IfOk r (λ x. Good x.0 × (x.1 ≡ length (spelled x.0)) × (take x.1 octets ≡ spelled x.0))
-    tells_found (Ok x) octets fits h =
-        let answer : Answers Good spelled octets (Ok (x.0, h.0)) = subst (Answers Good spelled octets) h.1 (reads.answers octets fits) in
-        let len : x.1 ≡ length (spelled x.0) = omega (arith, h.2, ap length answer.1, length-append (spelled x.0) h.0) in
-        (answer.0, len, ap (take x.1) answer.1 ∙ take_at (spelled x.0) h.0 x.1 (sym len))
-    tells_found (Err fault) octets fits h = tt
-
-    pub tells_only : (r : Result (A × ℕ) RecordFault) (octets : List ℕ) → Tells r octets (read octets) → (a : A) (rest : List ℕ) → Good a → octets ≡ spelled a ++ rest → ReadsSo r (a, length (spelled a))
-    tells_only (Ok x) octets h a rest good parts =
-        let read_so : read octets ≡ Ok (a, rest) = ap read parts ∙ reads.again a rest good in
-        let same = ok_is (x.0, h.0) (a, rest) (sym h.1 ∙ read_so) in
-        let value : x.0 ≡ a = ap (λ (p : A × List ℕ). p.0) same in
-        let behind : h.0 ≡ rest = ap (λ (p : A × List ℕ). p.1) same in
-        let len : x.1 ≡ length (spelled a) = omega (arith, h.2, ap length parts, ap length behind, length-append (spelled a) rest) in
-        ap (λ (v : A). pair v x.1) value ∙ ap (λ (n : ℕ). pair a n) len
-    tells_only (Err told.Short) octets h a rest good parts =
-        let read_so : read octets ≡ Ok (a, rest) = ap read parts ∙ reads.again a rest good in cc
-    tells_only (Err (told.Malformed at)) octets h a rest good parts =
-        let read_so : read octets ≡ Ok (a, rest) = ap read parts ∙ reads.again a rest good in cc (h.1, read_so)
-    tells_only (Err told.Memory) octets h a rest good parts = tt
+    good_of : (octets : List ℕ) (a : A) (rest : List ℕ) → AreOctets octets → read octets ≡ Ok (a, rest) → Good a × (octets ≡ spelled a ++ rest)
+    good_of octets a rest fits e = subst (Answers Good spelled octets) e (reads.answers octets fits)
 
     lacking_of : (octets : List ℕ) → AreOctets octets → read octets ≡ Err faults.Short → Lacking Good spelled octets
     lacking_of octets fits e = subst (Answers Good spelled octets) e (reads.answers octets fits)
@@ -164,48 +137,62 @@ module _ {A : Type 0} (Good : A → Type 0) (spelled : A → List ℕ) where
     wrong_of : (octets : List ℕ) (left : ℕ) → AreOctets octets → read octets ≡ Err (faults.Malformed left) → Wrong Good spelled octets left
     wrong_of octets left fits e = subst (Answers Good spelled octets) e (reads.answers octets fits)
 
-    pub tells_fault : (r : Result (A × ℕ) RecordFault) (octets : List ℕ) → AreOctets octets → Tells r octets (read octets) → IfErr r (ExplainsNoFirst IsSpelled octets)
-    tells_fault (Ok x) octets fits h = tt
-    tells_fault (Err told.Short) octets fits h = proper_front octets (lacking_of octets fits h)
-    tells_fault (Err (told.Malformed at)) octets fits h = breaks_off octets at h.0 h.2 h.1 (wrong_of octets h.0 fits h.1)
-    tells_fault (Err told.Memory) octets fits h = tt
+    -- the place of a fault
+    place_of : (octets : List ℕ) (left : ℕ) → Wrong Good spelled octets left → (length octets - left) + left ≡ length octets
+    place_of octets left h = let le = left_within octets left h in omega (arith, le)
 
-    pub tells_short : (r : Result (A × ℕ) RecordFault) (octets : List ℕ) → AreOctets octets → Tells r octets (read octets) → IsProperFront IsSpelled octets → FailsSo r told.Short
-    tells_short (Ok x) octets fits h proper =
-        let answer : Answers Good spelled octets (Ok (x.0, h.0)) = subst (Answers Good spelled octets) h.1 (reads.answers octets fits) in
-        not_lacking octets x.0 h.0 answer.0 answer.1 proper
-    tells_short (Err told.Short) octets fits h proper = refl
-    tells_short (Err (told.Malformed at)) octets fits h proper = absurd ((goes_wrong octets at h.0 h.2 (wrong_of octets h.0 fits h.1)).ends (begins_within octets proper.more (at + 1) proper.whole))
-    tells_short (Err told.Memory) octets fits h proper = tt
+    -- where a spelling stands first, nothing else is read
+    read_again : (octets : List ℕ) (a : A) (rest : List ℕ) → Good a → octets ≡ spelled a ++ rest → read octets ≡ Ok (a, rest)
+    read_again octets a rest good parts = ap read parts ∙ reads.again a rest good
 
-    pub tells_malformed : (r : Result (A × ℕ) RecordFault) (octets : List ℕ) → AreOctets octets → Tells r octets (read octets) → (at : ℕ) → BreaksOffAt IsSpelled octets at → FailsSo r (told.Malformed at)
-    tells_malformed (Ok x) octets fits h at broken =
-        let answer : Answers Good spelled octets (Ok (x.0, h.0)) = subst (Answers Good spelled octets) h.1 (reads.answers octets fits) in
-        not_broken octets at x.0 h.0 answer.0 answer.1 broken
-    tells_malformed (Err told.Short) octets fits h at broken =
+    abbrev AsRead : List ℕ → Result (A × Bor (List ℕ)) ReadFault → Type 0
+    AsRead octets r = Gives (λ (x : A × Bor (List ℕ)). (x.0, x.1.now)) r (read octets)
+
+    -- what was read lies within the octets
+    is_within : (octets : List ℕ) (r : Result (A × Bor (List ℕ)) ReadFault) → AreOctets octets → AsRead octets r → IsWithin (length octets) r
+    is_within octets (Ok x) fits h = let g = good_of octets x.0 x.1.now fits h in omega (arith, ap length g.1, length-append (spelled x.0) x.1.now)
+    is_within octets (Err faults.Short) fits h = tt
+    is_within octets (Err (faults.Malformed left)) fits h = left_within octets left (wrong_of octets left fits h)
+    is_within octets (Err faults.Memory) fits h = tt
+
+    first_told_of : (octets : List ℕ) (r : Result (A × Bor (List ℕ)) ReadFault) → AreOctets octets → AsRead octets r → ReadsFirst Good spelled octets (first_told (length octets) r)
+    first_told_of octets (Ok x) fits h =
+        let g = good_of octets x.0 x.1.now fits h in
+        let len : length octets - length x.1.now ≡ length (spelled x.0) = omega (arith, ap length g.1, length-append (spelled x.0) x.1.now) in
+        record {
+          found = (g.0, len, ap (take (length octets - length x.1.now)) g.1 ∙ take_at (spelled x.0) x.1.now (length octets - length x.1.now) (sym len));
+          only = λ a rest good parts.
+              let same = ok_is (x.0, x.1.now) (a, rest) (sym h ∙ read_again octets a rest good parts) in
+              let value : x.0 ≡ a = ap (λ (p : A × List ℕ). p.0) same in
+              ap (λ (n : ℕ). pair x.0 n) len ∙ ap (λ (v : A). pair v (length (spelled v))) value;
+          fault = tt;
+          short = λ proper. not_lacking octets x.0 x.1.now g.0 g.1 proper;
+          malformed = λ at broken. not_broken octets at x.0 x.1.now g.0 g.1 broken;
+        }
+    first_told_of octets (Err faults.Short) fits h =
         let l = lacking_of octets fits h in
-        absurd (broken.ends (begins_within octets l.more (at + 1) (l.value, l.good, l.whole)))
-    tells_malformed (Err (told.Malformed at')) octets fits h at broken =
-        let w = goes_wrong octets at' h.0 h.2 (wrong_of octets h.0 fits h.1) in
-        ap (λ (n : ℕ). told.Malformed n) (same_place octets at' at w.begins w.ends (record { more = broken.begins.more; whole = broken.begins.whole }) broken.ends)
-    tells_malformed (Err told.Memory) octets fits h at broken = tt
+        record {
+          found = tt;
+          only = λ a rest good parts. let again = read_again octets a rest good parts in cc (h, again);
+          fault = proper_front octets l;
+          short = λ proper. refl;
+          malformed = λ at broken. absurd (broken.ends (begins_within octets l.more (at + 1) (l.value, l.good, l.whole)));
+        }
+    first_told_of octets (Err (faults.Malformed left)) fits h =
+        let wrong = wrong_of octets left fits h in
+        let w = goes_wrong octets (length octets - left) left (place_of octets left wrong) wrong in
+        record {
+          found = tt;
+          only = λ a rest good parts. let again = read_again octets a rest good parts in cc (h, again);
+          fault = breaks_off octets (length octets - left) left (place_of octets left wrong) h wrong;
+          short = λ proper. absurd (w.ends (begins_within octets proper.more (length octets - left + 1) proper.whole));
+          malformed = λ at broken. ap (λ (n : ℕ). told.Malformed n) (same_place octets (length octets - left) at w.begins w.ends (record { more = broken.begins.more; whole = broken.begins.whole }) broken.ends);
+        }
+    first_told_of octets (Err faults.Memory) fits h = record { found = tt; only = λ a rest good parts. tt; fault = tt; short = λ proper. tt; malformed = λ at broken. tt }
 
-    -- the fault of a reader has its place
-    pub is_placed : (octets : List ℕ) (fault : ReadFault) → AreOctets octets → Fails fault (read octets) → IsPlaced (length octets) fault
-    is_placed octets faults.Short fits h = tt
-    is_placed octets (faults.Malformed left) fits h = left_within octets left (wrong_of octets left fits h)
-    is_placed octets faults.Memory fits h = tt
-
-    pub rest_within : (octets : List ℕ) (a : A) (rest : List ℕ) → AreOctets octets → read octets ≡ Ok (a, rest) → length rest ≤ length octets
-    rest_within octets a rest fits e =
-        let answer : Answers Good spelled octets (Ok (a, rest)) = subst (Answers Good spelled octets) e (reads.answers octets fits) in
-        omega (arith, ap length answer.1, length-append (spelled a) rest)
-
-    -- ---- reading the whole
-
-    nothing_answers : (octets : List ℕ) (a : A) (rest : List ℕ) → Good a → octets ≡ spelled a ++ rest → AnswersAll Good spelled octets (nothing_behind a rest)
-    nothing_answers octets a [] good parts = (good, parts ∙ append-nil (spelled a))
-    nothing_answers octets a (octet ∷ rest) good parts = record {
+    -- behind the spelling of a good value no octet goes on
+    behind_wrong : (octets : List ℕ) (a : A) (octet : ℕ) (rest : List ℕ) → Good a → octets ≡ spelled a ++ octet ∷ rest → Wrong Good spelled octets (length (octet ∷ rest))
+    behind_wrong octets a octet rest good parts = record {
       front = spelled a;
       octet = octet;
       rest = rest;
@@ -218,72 +205,62 @@ module _ {A : Type 0} (Good : A → Type 0) (spelled : A → List ℕ) where
           absurd (cc (none));
     }
 
-    all_answers_so : (octets : List ℕ) (r : Result (A × List ℕ) ReadFault) → Answers Good spelled octets r → AnswersAll Good spelled octets (r >>= λ x. nothing_behind x.0 x.1)
-    all_answers_so octets (Ok x) h = nothing_answers octets x.0 x.1 h.0 h.1
-    all_answers_so octets (Err faults.Short) h = h
-    all_answers_so octets (Err (faults.Malformed left)) h = h
-    all_answers_so octets (Err faults.Memory) h = h
+    -- octets that go wrong where so many are left are no spelling
+    wrong_told : (octets : List ℕ) (left : ℕ) → Wrong Good spelled octets left → ReadsAll Good spelled octets (Err (told.Malformed (length octets - left)))
+    wrong_told octets left wrong =
+        let w = goes_wrong octets (length octets - left) left (place_of octets left wrong) wrong in
+        record {
+          found = tt;
+          only = λ a good parts. absurd (w.ends (begins_within octets [] (length octets - left + 1) (a, good, append-nil octets ∙ parts)));
+          fault = w;
+          short = λ proper. absurd (w.ends (begins_within octets proper.more (length octets - left + 1) proper.whole));
+          malformed = λ at at_wrong. ap (λ (n : ℕ). told.Malformed n) (same_place octets (length octets - left) at w.begins w.ends at_wrong.begins at_wrong.ends);
+        }
 
-    pub all_answers : (octets : List ℕ) → AreOctets octets → AnswersAll Good spelled octets (all_of read octets)
-    all_answers octets fits = all_answers_so octets (read octets) (reads.answers octets fits)
+    -- a value with nothing behind it
+    alone_told : (octets : List ℕ) (a : A) → Good a → octets ≡ spelled a → ReadsAll Good spelled octets (Ok a)
+    alone_told octets a good parts = record {
+      found = (good, parts);
+      only = λ b good' parts'. (one_spelling a b [] [] good good' (append-nil (spelled a) ∙ sym parts ∙ parts' ∙ sym (append-nil (spelled b)))).0;
+      fault = tt;
+      short = λ proper. not_lacking octets a [] good (parts ∙ sym (append-nil (spelled a))) proper;
+      malformed = λ at wrong. wrong.ends (begins_within octets [] (at + 1) (a, good, append-nil octets ∙ parts));
+    }
 
-    pub all_again : (a : A) → Good a → all_of read (spelled a) ≡ Ok a
-    all_again a good =
-        let read_so : read (spelled a) ≡ Ok (a, []) = ap read (sym (append-nil (spelled a))) ∙ reads.again a [] good in
-        rw read_so refl
+    value_told : (octets : List ℕ) (a : A) (rest : List ℕ) → Good a → octets ≡ spelled a ++ rest → ReadsAll Good spelled octets (behind_told (length octets) a rest)
+    value_told octets a [] good parts = alone_told octets a good (parts ∙ append-nil (spelled a))
+    value_told octets a (octet ∷ rest) good parts = wrong_told octets (length (octet ∷ rest)) (behind_wrong octets a octet rest good parts)
 
-    pub all_found : (r : Result A RecordFault) (octets : List ℕ) → AreOctets octets → TellsAll r octets (all_of read octets) → IfOk r (λ a. Good a × (octets ≡ spelled a))
-    all_found (Ok a) octets fits h = subst (AnswersAll Good spelled octets) h (all_answers octets fits)
-    all_found (Err fault) octets fits h = tt
+    all_told_of : (octets : List ℕ) (r : Result (A × Bor (List ℕ)) ReadFault) → AreOctets octets → AsRead octets r → ReadsAll Good spelled octets (all_told (length octets) r)
+    all_told_of octets (Ok x) fits h = let g = good_of octets x.0 x.1.now fits h in value_told octets x.0 x.1.now g.0 g.1
+    all_told_of octets (Err faults.Short) fits h =
+        let l = lacking_of octets fits h in
+        record {
+          found = tt;
+          only = λ a good parts. let again = read_again octets a [] good (parts ∙ sym (append-nil (spelled a))) in cc (h, again);
+          fault = proper_front octets l;
+          short = λ proper. refl;
+          malformed = λ at wrong. absurd (wrong.ends (begins_within octets l.more (at + 1) (l.value, l.good, l.whole)));
+        }
+    all_told_of octets (Err (faults.Malformed left)) fits h = wrong_told octets left (wrong_of octets left fits h)
+    all_told_of octets (Err faults.Memory) fits h = record { found = tt; only = λ a good parts. tt; fault = tt; short = λ proper. tt; malformed = λ at wrong. tt }
 
-    pub all_only : (r : Result A RecordFault) (octets : List ℕ) → TellsAll r octets (all_of read octets) → (a : A) → Good a → octets ≡ spelled a → ReadsSo r a
-    all_only (Ok x) octets h a good parts = ok_is x a (sym h ∙ ap (all_of read) parts ∙ all_again a good)
-    all_only (Err told.Short) octets h a good parts = let read_so : all_of read octets ≡ Ok a = ap (all_of read) parts ∙ all_again a good in cc (h, read_so)
-    all_only (Err (told.Malformed at)) octets h a good parts = let read_so : all_of read octets ≡ Ok a = ap (all_of read) parts ∙ all_again a good in cc (h.1, read_so)
-    all_only (Err told.Memory) octets h a good parts = tt
+-- ---- for the functions that read, by the law of their reader
 
-    pub all_fault : (r : Result A RecordFault) (octets : List ℕ) → AreOctets octets → TellsAll r octets (all_of read octets) → IfErr r (ExplainsNone IsSpelled octets)
-    all_fault (Ok x) octets fits h = tt
-    all_fault (Err told.Short) octets fits h = proper_front octets (subst (AnswersAll Good spelled octets) h (all_answers octets fits))
-    all_fault (Err (told.Malformed at)) octets fits h = goes_wrong octets at h.0 h.2 (subst (AnswersAll Good spelled octets) h.1 (all_answers octets fits))
-    all_fault (Err told.Memory) octets fits h = tt
+module _ {A : Type 0} {Good : A → Type 0} {spelled : A → List ℕ} {read : Reader A} (reads : IsReader Good spelled read) (octets : List ℕ) (r : Result (A × Bor (List ℕ)) ReadFault)
+    (fits : AreOctets octets) (h : Gives (λ (x : A × Bor (List ℕ)). (x.0, x.1.now)) r (read octets)) where
+  -- what was read lies within the octets
+  pub lies_within : IsWithin (length octets) r
+  lies_within = is_within Good spelled read reads octets r fits h
 
-    pub all_short : (r : Result A RecordFault) (octets : List ℕ) → AreOctets octets → TellsAll r octets (all_of read octets) → IsProperFront IsSpelled octets → FailsSo r told.Short
-    all_short (Ok a) octets fits h proper =
-        let answer : AnswersAll Good spelled octets (Ok a) = subst (AnswersAll Good spelled octets) h (all_answers octets fits) in
-        not_lacking octets a [] answer.0 (answer.1 ∙ sym (append-nil (spelled a))) proper
-    all_short (Err told.Short) octets fits h proper = refl
-    all_short (Err (told.Malformed at)) octets fits h proper =
-        absurd ((goes_wrong octets at h.0 h.2 (subst (AnswersAll Good spelled octets) h.1 (all_answers octets fits))).ends (begins_within octets proper.more (at + 1) proper.whole))
-    all_short (Err told.Memory) octets fits h proper = tt
+  -- what is told of it is exact
+  pub reads_first : ReadsFirst Good spelled octets (first_told (length octets) r)
+  reads_first = first_told_of Good spelled read reads octets r fits h
 
-    pub all_malformed : (r : Result A RecordFault) (octets : List ℕ) → AreOctets octets → TellsAll r octets (all_of read octets) → (at : ℕ) → GoesWrongAt IsSpelled octets at → FailsSo r (told.Malformed at)
-    all_malformed (Ok a) octets fits h at wrong =
-        let answer : AnswersAll Good spelled octets (Ok a) = subst (AnswersAll Good spelled octets) h (all_answers octets fits) in
-        wrong.ends (begins_within octets [] (at + 1) (a, answer.0, append-nil octets ∙ answer.1))
-    all_malformed (Err told.Short) octets fits h at wrong =
-        let l : Lacking Good spelled octets = subst (AnswersAll Good spelled octets) h (all_answers octets fits) in
-        absurd (wrong.ends (begins_within octets l.more (at + 1) (l.value, l.good, l.whole)))
-    all_malformed (Err (told.Malformed at')) octets fits h at wrong =
-        let w = goes_wrong octets at' h.0 h.2 (subst (AnswersAll Good spelled octets) h.1 (all_answers octets fits)) in
-        ap (λ (n : ℕ). told.Malformed n) (same_place octets at' at w.begins w.ends wrong.begins wrong.ends)
-    all_malformed (Err told.Memory) octets fits h at wrong = tt
+  pub reads_all : ReadsAll Good spelled octets (all_told (length octets) r)
+  reads_all = all_told_of Good spelled read reads octets r fits h
 
-    all_wrong_of : (octets : List ℕ) (left : ℕ) → AreOctets octets → all_of read octets ≡ Err (faults.Malformed left) → Wrong Good spelled octets left
-    all_wrong_of octets left fits e = subst (AnswersAll Good spelled octets) e (all_answers octets fits)
-
-    pub all_placed : (octets : List ℕ) (fault : ReadFault) → AreOctets octets → Fails fault (all_of read octets) → IsPlaced (length octets) fault
-    all_placed octets faults.Short fits h = tt
-    all_placed octets (faults.Malformed left) fits h = left_within octets left (all_wrong_of octets left fits h)
-    all_placed octets faults.Memory fits h = tt
-
--- a fault is told by its place
-pub tells_failed : {A : Type 0} (fault : ReadFault) (octets : List ℕ) (read : Result (A × List ℕ) ReadFault) → IsPlaced (length octets) fault → Fails fault read → Tells {A = A} (Err (told_of (length octets) fault)) octets read
-tells_failed faults.Short octets read placed h = h
-tells_failed (faults.Malformed left) octets read placed h = (left, h, omega arith)
-tells_failed faults.Memory octets read placed h = tt
-
-pub tells_all_failed : {A : Type 0} (fault : ReadFault) (octets : List ℕ) (read : Result A ReadFault) → IsPlaced (length octets) fault → Fails fault read → TellsAll {A = A} (Err (told_of (length octets) fault)) octets read
-tells_all_failed faults.Short octets read placed h = h
-tells_all_failed (faults.Malformed left) octets read placed h = (left, h, omega arith)
-tells_all_failed faults.Memory octets read placed h = tt
+-- no spelling begins another: octets that begin with two spellings begin with one
+pub one_first : {A : Type 0} {Good : A → Type 0} {spelled : A → List ℕ} {read : Reader A} → IsReader Good spelled read
+    → (a b : A) (x y : List ℕ) → Good a → Good b → spelled a ++ x ≡ spelled b ++ y → (a ≡ b) × (x ≡ y)
+one_first reads = one_spelling _ _ _ reads

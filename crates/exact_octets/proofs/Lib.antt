@@ -1,6 +1,11 @@
 pub mod Readers
+pub mod Tests
+pub mod Digits
 pub mod Octets
-pub mod Many
+pub mod Loops
 pub mod Fields
-pub mod Fronts
+pub mod Choices
+pub mod Filled
+pub mod Streams
 pub mod Growing
+pub mod Fronts

@@ -166,12 +166,23 @@ module _ {A B : Type 0} (GA : A → Type 0) (sA : A → List ℕ) (rA : Reader A
   }
   both_answers octets fits (Err faults.Memory) e h = absurd h
 
-  pub both_reads : IsReader Good spelled (both rA rB)
-  both_reads = record {
+  both_is_reader : IsReader Good spelled (both rA rB)
+  both_is_reader = record {
     one = ((first.one.0, (second first.one.0 first.one.1).one.0), (first.one.1, (second first.one.0 first.one.1).one.1));
     again = λ p rest good. ap (both rA rB) (append_assoc (sA p.0) (sB p.0 p.1) rest) ∙ rw (first.again p.0 (sB p.0 p.1 ++ rest) good.0, (second p.0 good.0).again p.1 rest good.1) refl;
     answers = λ octets fits. both_answers octets fits (rA octets) refl (first.answers octets fits);
   }
+
+-- a value, and a second one behind it that hangs on the first
+pub then_reads : {A B : Type 0} {GA : A → Type 0} {sA : A → List ℕ} {rA : Reader A} {GB : A → B → Type 0} {sB : A → B → List ℕ} {rB : A → Reader B}
+    → IsReader GA sA rA → ((a : A) → GA a → IsReader (GB a) (sB a) (rB a)) → IsReader (λ (p : A × B). GA p.0 × GB p.0 p.1) (λ p. sA p.0 ++ sB p.0 p.1) (both rA rB)
+then_reads first second = both_is_reader _ _ _ _ _ _ first second
+
+infixr 20 ◌&◌
+-- a value, and a second one behind it
+pub ◌&◌ : {A B : Type 0} {GA : A → Type 0} {sA : A → List ℕ} {rA : Reader A} {GB : B → Type 0} {sB : B → List ℕ} {rB : Reader B}
+    → IsReader GA sA rA → IsReader GB sB rB → IsReader (λ (p : A × B). GA p.0 × GB p.1) (λ p. sA p.0 ++ sB p.1) (both rA (λ a. rB))
+first & second = then_reads first (λ a good. second)
 
 -- ---- a value made of what is read
 
@@ -209,12 +220,17 @@ module _ {A C : Type 0} (GA : A → Type 0) (sA : A → List ℕ) (rA : Reader A
       let t = same.back c good in
       ap (λ (y : List ℕ). made f rA (y ++ rest)) (sym t.3) ∙ rw (reads.again t.0 rest t.1) (ap (λ v. Ok (v, rest)) t.2)
 
-  pub made_reads : IsReader GC sC (made f rA)
-  made_reads = record {
+  made_is_reader : IsReader GC sC (made f rA)
+  made_is_reader = record {
     one = (f reads.one.0, (same.there reads.one.0 reads.one.1).0);
     again = made_again;
     answers = λ octets fits. made_answers octets (rA octets) (reads.answers octets fits);
   }
+
+-- a value made of what is read, by a function that loses nothing of it
+pub made_reads : {A C : Type 0} {GA : A → Type 0} {sA : A → List ℕ} {rA : Reader A} {GC : C → Type 0} {sC : C → List ℕ} (f : A → C)
+    → IsReader GA sA rA → Same GA sA GC sC f → IsReader GC sC (made f rA)
+made_reads f reads same = made_is_reader _ _ _ _ _ f reads same
 
 -- ---- one octet
 
@@ -271,15 +287,17 @@ module _ {A : Type 0} (GA : A → Type 0) (sA : A → List ℕ) (rA : Reader A) 
     back = cons_back n;
   }
 
-  pub repeated_reads : (n : ℕ) → IsReader (AreGood n) (flat_map sA) (repeated rA n)
+  repeated_is_reader : (n : ℕ) → IsReader (AreGood n) (flat_map sA) (repeated rA n)
   unfolding repeated
-  repeated_reads zero = made_reads (λ (xs : List A). xs ≡ []) (λ xs. []) (given []) (AreGood 0) (flat_map sA) (λ xs. xs) (given_reads []) same_none
-  repeated_reads (suc n) =
-      made_reads (λ (p : A × List A). GA p.0 × AreGood n p.1) (λ p. sA p.0 ++ flat_map sA p.1) (both rA (λ x. repeated rA n)) (AreGood (suc n)) (flat_map sA) (λ p. p.0 ∷ p.1)
-      (both_reads GA sA rA (λ x. AreGood n) (λ x. flat_map sA) (λ x. repeated rA n) reads (λ x good. repeated_reads n))
-      (same_cons n)
+  repeated_is_reader zero = made_reads (λ (xs : List A). xs) (given_reads []) same_none
+  repeated_is_reader (suc n) = made_reads (λ (p : A × List A). p.0 ∷ p.1) (reads & repeated_is_reader n) (same_cons n)
 
--- ---- the same values under other words
+-- so many values
+pub repeated_reads : {A : Type 0} {GA : A → Type 0} {sA : A → List ℕ} {rA : Reader A} → IsReader GA sA rA
+    → (n : ℕ) → IsReader (λ xs. (length xs ≡ n) × AllByRecursion GA xs) (flat_map sA) (repeated rA n)
+repeated_reads reads n = repeated_is_reader _ _ _ reads n
+
+-- ---- the same values in other words
 
 module _ {A : Type 0} (GA : A → Type 0) (sA : A → List ℕ) (rA : Reader A) (GC : A → Type 0) (sC : A → List ℕ)
     (reads : IsReader GA sA rA) (there : (a : A) → GA a → GC a) (back : (a : A) → GC a → GA a) (spells : (a : A) → GA a → sA a ≡ sC a) where
@@ -303,9 +321,19 @@ module _ {A : Type 0} (GA : A → Type 0) (sA : A → List ℕ) (rA : Reader A) 
   }
   renamed_answers octets (Err faults.Memory) h = absurd h
 
-  pub renamed_reads : IsReader GC sC rA
-  renamed_reads = record {
+  renamed_is_reader : IsReader GC sC rA
+  renamed_is_reader = record {
     one = (reads.one.0, there reads.one.0 reads.one.1);
     again = λ a rest good. ap (λ (y : List ℕ). rA (y ++ rest)) (sym (spells a (back a good))) ∙ reads.again a rest (back a good);
     answers = λ octets fits. renamed_answers octets (rA octets) (reads.answers octets fits);
   }
+
+-- the same values, seen and spelled in other words
+pub renamed_reads : {A : Type 0} {GA : A → Type 0} {sA : A → List ℕ} {rA : Reader A} {GC : A → Type 0} {sC : A → List ℕ}
+    → IsReader GA sA rA → ((a : A) → GA a → GC a) → ((a : A) → GC a → GA a) → ((a : A) → GA a → sA a ≡ sC a) → IsReader GC sC rA
+renamed_reads reads there back spells = renamed_is_reader _ _ _ _ _ reads there back spells
+
+-- values that are good for the same reason
+pub reworded_reads : {A : Type 0} {GA GC : A → Type 0} {sA : A → List ℕ} {rA : Reader A}
+    → IsReader GA sA rA → ((a : A) → GA a → GC a) → ((a : A) → GC a → GA a) → IsReader GC sA rA
+reworded_reads reads there back = renamed_reads reads there back (λ a good. refl)

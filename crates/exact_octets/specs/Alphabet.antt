@@ -1,5 +1,5 @@
 -- Which octets a field may have.
-use Rattle.std.specs.Prelude.{ℕ, ◌≤◌, Bool, true, nat_lt, nat_le, ◌&&◌}
+use Rattle.std.specs.Prelude.{ℕ, ◌<◌, ◌≤◌, ⊤, Bool, true, nat_lt, nat_le, ◌&&◌}
 use Rattle.exact_octets.specs.declared.alphabet.Alphabet.{Alphabet}
 use Rattle.exact_octets.specs.declared.alphabet.Alphabet.TheVariants.{Any, Septet, Digit}
 
@@ -16,3 +16,9 @@ is_in Digit octet = within 48 57 octet
 -- a decimal digit in ASCII
 abbrev pub IsDigit : ℕ → Type 0
 IsDigit octet = (48 ≤ octet) × (octet ≤ 57)
+
+-- what an octet of an alphabet is
+abbrev pub IsIn : Alphabet → ℕ → Type 0
+IsIn Any octet = ⊤
+IsIn Septet octet = octet < 128
+IsIn Digit octet = IsDigit octet

@@ -1,5 +1,5 @@
--- Octets that a spelling begins with, and where octets cease to begin one. G says which octets are a spelling.
-use Rattle.std.specs.Prelude.{◌≡◌, ◌≢◌, ℕ, ◌+◌, ◌<◌, ⊤, List, [], ◌++◌, length, take, Result, Ok, Err}
+-- What a reader that is exact answers: which octets begin a spelling, and where they cease to. G says which octets are a spelling.
+use Rattle.std.specs.Prelude.{◌≡◌, ◌≢◌, ℕ, ◌+◌, ◌<◌, ⊤, List, [], ◌++◌, length, take, Result, Ok, Err, IfOk, IfErr}
 use Rattle.exact_octets.specs.declared.record_fault.RecordFault.{RecordFault}
 use Rattle.exact_octets.specs.declared.record_fault.RecordFault.TheVariants.{Short, Malformed, Memory}
 
@@ -51,3 +51,31 @@ ReadsSo (Ok x) value = x ≡ value
 ReadsSo (Err Short) value = ⊥
 ReadsSo (Err (Malformed at)) value = ⊥
 ReadsSo (Err Memory) value = ⊤
+
+-- octets that are the spelling of a good value
+abbrev pub IsSpelled : {A : Type 0} → (A → Type 0) → (A → List ℕ) → List ℕ → Type 0
+IsSpelled {A = A} Good spelled octets = (a : A) × Good a × (octets ≡ spelled a)
+
+-- ---- the contract of a reader, by the good values and how they are spelled
+
+-- of one that reads a value at the front, and says how many octets it takes
+pub record ReadsFirst {A : Type 0} (Good : A → Type 0) (spelled : A → List ℕ) (octets : List ℕ) (result : Result (A × ℕ) RecordFault) : Type 0 where
+  -- what is read is good, and its spelling stands first
+  pub found : IfOk result (λ read. Good read.0 × (read.1 ≡ length (spelled read.0)) × (take read.1 octets ≡ spelled read.0))
+  -- a good value whose spelling stands first is read, whatever follows it
+  pub only : (a : A) (rest : List ℕ) → Good a → octets ≡ spelled a ++ rest → ReadsSo result (a, length (spelled a))
+  -- each fault says what the octets are
+  pub fault : IfErr result (ExplainsNoFirst (IsSpelled Good spelled) octets)
+  pub short : IsProperFront (IsSpelled Good spelled) octets → FailsSo result Short
+  pub malformed : (at : ℕ) → BreaksOffAt (IsSpelled Good spelled) octets at → FailsSo result (Malformed at)
+
+-- of one that reads a value of all the octets
+pub record ReadsAll {A : Type 0} (Good : A → Type 0) (spelled : A → List ℕ) (octets : List ℕ) (result : Result A RecordFault) : Type 0 where
+  -- what is read is good, and the octets are its spelling
+  pub found : IfOk result (λ a. Good a × (octets ≡ spelled a))
+  -- a good value whose spelling the octets are is read
+  pub only : (a : A) → Good a → octets ≡ spelled a → ReadsSo result a
+  -- each fault says what the octets are
+  pub fault : IfErr result (ExplainsNone (IsSpelled Good spelled) octets)
+  pub short : IsProperFront (IsSpelled Good spelled) octets → FailsSo result Short
+  pub malformed : (at : ℕ) → GoesWrongAt (IsSpelled Good spelled) octets at → FailsSo result (Malformed at)

@@ -1,4 +1,5 @@
 pub mod Alphabet
+pub mod Numbers
 pub mod Reading
 pub mod Telling
 pub mod Fronts

@@ -3,9 +3,9 @@
 ghost use Rattle.std.specs.Prelude.{◌≡◌, ◌<◌, ◌++◌, length, OnOk, OnErr};
 ghost use Rattle.exact_octets.specs.Growth.{Keeps};
 ghost use Rattle.exact_octets.specs.Spelling.{short, long};
-ghost use Rattle.exact_octets.specs.Reading.{Gives, short_at as short_front, long_at as long_front};
+ghost use Rattle.exact_octets.specs.Reading.{Gives, short_at as short_front, counted_at as counted_front};
 
-use crate::{Alphabet, ReadFault, number_at, octet_at, octets_at};
+use crate::{Alphabet, Numbers, ReadFault, number_at, octet_at, octets_at};
 use kn_base::{Memory, Octets};
 
 /// Octets of an alphabet behind one octet that says how many they are.
@@ -23,17 +23,17 @@ pub fn short_at(
     Ok((text, rest))
 }
 
-/// Octets of an alphabet behind two octets that say how many they are.
-#[tactic(auto, unfolding(crate::specs::Reading::long_at))]
-pub fn long_at(
+/// Octets of an alphabet behind a number of `width` octets, one of `numbers`, that says how many they are.
+#[tactic(auto, unfolding(crate::specs::Reading::counted_at))]
+pub fn counted_at(
     octets: &[u8],
-    most: u16,
-    even: bool,
+    width: usize,
+    numbers: Numbers,
     alphabet: Alphabet,
 ) -> Result<(&[u8], &[u8]), ReadFault>
-    ensures { Gives (λ x. (x.0.now, x.1.now)) result (long_front most even alphabet octets.now) }
+    ensures { Gives (λ x. (x.0.now, x.1.now)) result (counted_front width numbers alphabet octets.now) }
 {
-    let (len, rest) = number_at(octets, 0, most, even)?;
+    let (len, rest) = number_at(octets, width, numbers)?;
     let (text, rest) = octets_at(rest, len as usize, alphabet)?;
     Ok((text, rest))
 }

@@ -1,5 +1,4 @@
-pub mod Sizes
-pub mod Elements
 pub mod Headers
 pub mod Messages
 pub mod Entries
+pub mod Alone
