@@ -1,6 +1,5 @@
 -- What the three areas of a disk hold, and what its calls do to them.
-use Rattle.std.specs.Prelude.{◌≡◌, ◌≤◌, ◌+◌, ℕ, List, ◌++◌, length, take, drop, min, Option, IfSome, Result, OnOk, OnErr}
-use Rattle.std.specs.Option.{option_map}
+use Rattle.std.specs.Prelude.{◌≡◌, ◌≤◌, ◌+◌, ℕ, List, [], ◌++◌, length, take, drop, min, Result, OnOk, OnErr}
 use Rattle.kn_base.specs.Count.{Rose, last_count}
 use Rattle.store_journal.specs.declared.area.Area.{Area}
 use Rattle.store_journal.specs.declared.area.Area.TheVariants.{A, B, Pick}
@@ -11,6 +10,10 @@ pub record Areas : Type 0 where
   pub a : List ℕ
   pub b : List ℕ
   pub pick : List ℕ
+
+-- areas without octets
+abbrev pub no_areas : Areas
+no_areas = record { a = []; b = []; pick = [] }
 
 -- the octets of one area
 abbrev pub octets_of : Areas → Area → List ℕ
@@ -29,24 +32,16 @@ abbrev pub written : List ℕ → ℕ → List ℕ → List ℕ
 written octets at bytes = take at octets ++ bytes ++ drop (at + length bytes) octets
 
 -- the areas after a write to one of them
-abbrev pub write_area : Area → ℕ → List ℕ → Areas → Areas
-write_area area at bytes areas = with_octets areas area (written (octets_of areas area) at bytes)
+abbrev pub after_write : Area → ℕ → List ℕ → Areas → Areas
+after_write area at bytes areas = with_octets areas area (written (octets_of areas area) at bytes)
 
--- what is told after a write, where contents are told
-abbrev pub after_write : Area → ℕ → List ℕ → Option Areas → Option Areas
-after_write area at bytes told = option_map (write_area area at bytes) told
+-- a place is no further than an area's end
+abbrev pub IsWithin : Areas → Area → ℕ → Type 0
+IsWithin areas area place = place ≤ length (octets_of areas area)
 
--- an area has this many octets, where contents are told
-abbrev pub HasSize : Option Areas → Area → ℕ → Type 0
-HasSize told area size = IfSome told (λ areas. size ≡ length (octets_of areas area))
-
--- a place is no further than an area's end, where contents are told
-abbrev pub IsWithin : Option Areas → Area → ℕ → Type 0
-IsWithin told area place = IfSome told (λ areas. place ≤ length (octets_of areas area))
-
--- octets are those of an area from a place on, where contents are told
-abbrev pub Reads : Option Areas → Area → ℕ → List ℕ → Type 0
-Reads told area at octets = IfSome told (λ areas. octets ≡ take (length octets) (drop at (octets_of areas area)))
+-- octets are those of an area from a place on
+abbrev pub Reads : Areas → Area → ℕ → List ℕ → Type 0
+Reads areas area at octets = octets ≡ take (length octets) (drop at (octets_of areas area))
 
 -- Each call is counted. The count of faults stays at Ok and rises at a fault, and neither count falls.
 pub record Counts {T : Type 0} (calls calls_now faults faults_now : ℕ) (result : Result T DiskFailed) : Type 0 where

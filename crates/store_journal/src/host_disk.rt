@@ -1,6 +1,6 @@
 //! A disk of real files. It tells no contents: what a file holds is no matter of a proof.
 
-ghost use Rattle.std.specs.Prelude.{◌≡◌, IfOk, None};
+ghost use Rattle.std.specs.Prelude.{◌≡◌, IfOk};
 
 use crate::{Area, Disk, DiskFailed};
 use kn_base::{Memory, Octets, raised};
@@ -140,7 +140,12 @@ fn sync<R: Files<File = File>>(rt: &R, area: &mut HostFile) -> io::Result<()> {
 }
 
 impl<R: Files<File = File>> Disk for HostDisk<R> {
-    ghost contents = { λ disk. None };
+    ghost use Rattle.store_journal.specs.Disk.{no_areas};
+    ghost use Rattle.std.specs.Prelude.{false};
+
+    ghost tells = { false };
+
+    ghost contents = { λ _. no_areas };
 
     ghost faults = { λ disk. disk.faults };
 

@@ -6,7 +6,6 @@
 //! Its one contract: what an opening hands out is exactly what was appended with `Ok`, in order.
 #![tactic(auto)]
 
-mod again;
 mod area;
 mod disk;
 mod fault;
