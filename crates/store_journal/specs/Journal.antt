@@ -1,7 +1,7 @@
 -- What a journal keeps, and what its calls answer.
 use Rattle.std.specs.Prelude.{◌≡◌, ◌<◌, ◌≤◌, ◌-◌, ◌^◌, ℕ, Bool, false, List, [], ◌∷◌, ◌++◌, length, take, drop, All, Option, Some, None, Result, Ok, Err, OnOk, IsErrOf}
 use Rattle.std.specs.Bool.{OnTrue}
-use Rattle.store_journal.specs.Disk.{Areas, octets_of, after_write}
+use Rattle.store_journal.specs.Disk.{Areas, octets_of, after_write, Synced, all_synced}
 use Rattle.store_journal.specs.Area.{Standing, unborn, born, foreign, stands, gate_place, unit, area_text, payloads_in, IsPayload, IsStored}
 use Rattle.kn_base.specs.Count.{Rose}
 use Rattle.store_journal.specs.declared.area.Area.{Area}
@@ -81,6 +81,12 @@ abbrev pub OpensAs : Standing → ℕ → ℕ → Area → List (List ℕ) → T
 OpensAs unborn birth now area payloads = (now ≡ birth) × (area ≡ A) × (payloads ≡ [])
 OpensAs (born old stood_in stood) birth now area payloads = (now ≡ old) × (area ≡ stood_in) × (payloads ≡ stood)
 OpensAs (foreign stood_in at) birth now area payloads = ⊥
+
+-- which areas are synced after an opening of areas that stand so: all of them after a birth, and else as before
+abbrev pub synced_after : Standing → Synced → Synced
+synced_after unborn synced = all_synced
+synced_after (born birth area payloads) synced = synced
+synced_after (foreign area at) synced = synced
 
 -- what was found at an opening, with the areas before it and now
 pub record IsFound (tells : Bool) (before now : Areas) (birth : ℕ) (found : Found) (payloads : List (List ℕ)) : Type 0 where

@@ -1,11 +1,15 @@
 -- What a disk in memory holds and has counted.
 use Rattle.std.specs.Prelude.{ℕ}
-use Rattle.store_journal.specs.Disk.{Areas}
+use Rattle.store_journal.specs.Disk.{Areas, Synced}
 use Rattle.store_journal.specs.declared.mem_disk.MemDisk.{MemDisk}
 
 -- what the areas hold
 abbrev pub mem_areas : MemDisk → Areas
-mem_areas disk = record { a = disk.a.items; b = disk.b.items; pick = disk.pick.items }
+mem_areas disk = record { a = disk.a.octets.items; b = disk.b.octets.items; pick = disk.pick.octets.items }
+
+-- which areas are synced
+abbrev pub mem_synced : MemDisk → Synced
+mem_synced disk = record { a = disk.a.is_synced; b = disk.b.is_synced; pick = disk.pick.is_synced }
 
 -- how many calls were made
 abbrev pub mem_calls : MemDisk → ℕ

@@ -1,8 +1,8 @@
 //! What the store asks of a disk: five calls on three areas, what they do and when they may fail.
 
-ghost use Rattle.std.specs.Prelude.{◌≡◌, ◌<◌, ◌≤◌, ◌+◌, ◌^◌, ℕ, Bool, length, IfOk, OnOk};
+ghost use Rattle.std.specs.Prelude.{◌≡◌, ◌<◌, ◌≤◌, ◌+◌, ◌^◌, ℕ, Bool, true, false, length, IfOk, OnOk, OnErr};
 ghost use Rattle.std.specs.Bool.{OnTrue};
-ghost use Rattle.store_journal.specs.Disk.{Areas, Counts, IsWithin, Reads, after_write, octets_of};
+ghost use Rattle.store_journal.specs.Disk.{Areas, Counts, IsWithin, Reads, Synced, after_write, octets_of, with_synced};
 
 use crate::Area;
 
@@ -18,6 +18,10 @@ pub trait Disk {
     /// What the areas hold. It means something only where it is told.
     ghost contents: { Self → Areas };
 
+    /// Whether all that was written to an area was synced since, by a good sync. It means something only where
+    /// contents are told.
+    ghost synced: { Self → Synced };
+
     /// How often the disk has failed.
     ghost faults: { Self → ℕ };
 
@@ -28,6 +32,7 @@ pub trait Disk {
     fn size(&mut self, area: Area) -> Result<u64, DiskFailed>
         ensures counted { Counts (calls self.old) (calls self.new) (faults self.old) (faults self.new) result }
         ensures kept { contents self.new ≡ contents self.old }
+        ensures kept_synced { synced self.new ≡ synced self.old }
         ensures size { IfOk result (λ size. OnTrue tells (size ≡ length (octets_of (contents self.old) area))) };
 
     /// Fills `into` with the octets of an area from `at` on, which is in octets.
@@ -35,6 +40,7 @@ pub trait Disk {
         requires { OnTrue tells (IsWithin (contents self.old) area (at + length into.old)) }
         ensures counted { Counts (calls self.old) (calls self.new) (faults self.old) (faults self.new) result }
         ensures kept { contents self.new ≡ contents self.old }
+        ensures kept_synced { synced self.new ≡ synced self.old }
         ensures read { OnOk result (OnTrue tells (Reads (contents self.old) area at into.new)) };
 
     /// Writes octets over an area from `at` on, and past its end. A write that would end past 2^62 octets
@@ -44,10 +50,13 @@ pub trait Disk {
         requires inside { OnTrue tells (IsWithin (contents self.old) area at) }
         ensures counted { Counts (calls self.old) (calls self.new) (faults self.old) (faults self.new) result }
         ensures written { OnOk result (OnTrue tells (contents self.new ≡ after_write area at bytes.now (contents self.old))) }
+        ensures unsynced { OnTrue tells (synced self.new ≡ with_synced (synced self.old) area false) }
         ensures end { OnOk result (at + length bytes.now ≤ 2 ^ 62) };
 
     /// Puts what was written to an area where a stop leaves it.
     fn sync(&mut self, area: Area) -> Result<(), DiskFailed>
         ensures counted { Counts (calls self.old) (calls self.new) (faults self.old) (faults self.new) result }
-        ensures kept { contents self.new ≡ contents self.old };
+        ensures kept { contents self.new ≡ contents self.old }
+        ensures synced { OnOk result (OnTrue tells (synced self.new ≡ with_synced (synced self.old) area true)) }
+        ensures unsynced { OnErr result (synced self.new ≡ synced self.old) };
 }

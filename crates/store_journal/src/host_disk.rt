@@ -140,12 +140,14 @@ fn sync<R: Files<File = File>>(rt: &R, area: &mut HostFile) -> io::Result<()> {
 }
 
 impl<R: Files<File = File>> Disk for HostDisk<R> {
-    ghost use Rattle.store_journal.specs.Disk.{no_areas};
+    ghost use Rattle.store_journal.specs.Disk.{no_areas, all_synced};
     ghost use Rattle.std.specs.Prelude.{false};
 
     ghost tells = { false };
 
     ghost contents = { λ _. no_areas };
+
+    ghost synced = { λ _. all_synced };
 
     ghost faults = { λ disk. disk.faults };
 

@@ -11,6 +11,7 @@ mod disk;
 mod fault;
 mod host_disk;
 mod journal;
+mod mem_area;
 mod mem_disk;
 mod open;
 mod unit;
