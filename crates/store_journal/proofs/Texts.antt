@@ -83,7 +83,7 @@ text_more octets birth payloads payload size is =
     }
 
 -- what an area holds after a write to it
-pub octets_of-with : (areas : Areas) (area : Area) (octets : List ℕ) → octets_of (with_octets areas area octets) area ≡ octets
+octets_of-with : (areas : Areas) (area : Area) (octets : List ℕ) → octets_of (with_octets areas area octets) area ≡ octets
 octets_of-with areas A octets = refl
 octets_of-with areas B octets = refl
 octets_of-with areas Pick octets = refl

@@ -35,6 +35,10 @@ written octets at bytes = take at octets ++ bytes ++ drop (at + length bytes) oc
 abbrev pub after_write : Area → ℕ → List ℕ → Areas → Areas
 after_write area at bytes areas = with_octets areas area (written (octets_of areas area) at bytes)
 
+-- all areas but one hold what they held
+abbrev pub OthersStay : Area → Areas → Areas → Type 0
+OthersStay area old new = new ≡ with_octets old area (octets_of new area)
+
 -- of each area, whether all that was written to it was synced since
 pub record Synced : Type 0 where
   pub a : Bool
@@ -57,6 +61,11 @@ with_synced synced A now = record { a = now; b = synced.b; pick = synced.pick }
 with_synced synced B now = record { a = synced.a; b = now; pick = synced.pick }
 with_synced synced Pick now = record { a = synced.a; b = synced.b; pick = now }
 
+-- all areas but one hold what they held, and are synced if they were
+pub record ChangesOnly (area : Area) (old new : Areas) (synced synced_now : Synced) : Type 0 where
+  pub octets : OthersStay area old new
+  pub syncs : synced_now ≡ with_synced synced area (is_synced synced_now area)
+
 -- a place is no further than an area's end
 abbrev pub IsWithin : Areas → Area → ℕ → Type 0
 IsWithin areas area place = place ≤ length (octets_of areas area)
@@ -68,6 +77,13 @@ Reads areas area at octets = octets ≡ take (length octets) (drop at (octets_of
 -- Each call is counted. The count of faults stays at Ok and rises at a fault, and neither count falls.
 pub record Counts {T : Type 0} (calls calls_now faults faults_now : ℕ) (result : Result T DiskFailed) : Type 0 where
   pub counted : calls_now ≡ min (calls + 1) last_count
+  pub kept : faults ≤ faults_now
+  pub ok : OnOk result (faults_now ≡ faults)
+  pub failed : OnErr result (Rose faults faults_now)
+
+-- At most so many calls were made. The count of faults stays at Ok and rises at a fault, and never falls.
+pub record Spends {T : Type 0} (most calls calls_now faults faults_now : ℕ) (result : Result T DiskFailed) : Type 0 where
+  pub bounded : calls_now ≤ calls + most
   pub kept : faults ≤ faults_now
   pub ok : OnOk result (faults_now ≡ faults)
   pub failed : OnErr result (Rose faults faults_now)

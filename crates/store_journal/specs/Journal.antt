@@ -1,5 +1,5 @@
 -- What a journal keeps, and what its calls answer.
-use Rattle.std.specs.Prelude.{◌≡◌, ◌<◌, ◌≤◌, ◌-◌, ◌^◌, ℕ, Bool, false, List, [], ◌∷◌, ◌++◌, length, take, drop, All, Option, Some, None, Result, Ok, Err, OnOk, IsErrOf}
+use Rattle.std.specs.Prelude.{◌≡◌, ◌<◌, ◌≤◌, ◌+◌, ◌-◌, ◌^◌, ℕ, Bool, false, List, [], ◌∷◌, ◌++◌, length, take, drop, All, Option, Some, None, Result, Ok, Err, OnOk, IsErrOf}
 use Rattle.std.specs.Bool.{OnTrue}
 use Rattle.store_journal.specs.Disk.{Areas, octets_of, after_write, Synced, all_synced}
 use Rattle.store_journal.specs.Area.{Standing, unborn, born, foreign, stands, gate_place, unit, area_text, payloads_in, IsPayload, IsStored}
@@ -98,8 +98,9 @@ pub record IsFound (tells : Bool) (before now : Areas) (birth : ℕ) (found : Fo
   pub stored : OnTrue tells (IsStored now found.area found.birth payloads)
   pub stood : OnTrue tells (OpensAs (stands before) birth found.birth found.area payloads)
 
--- The count of faults stays at Ok, never falls, and rises where Disk is answered.
-pub record Spares {T : Type 0} (faults faults_now : ℕ) (result : Result T OpenFault) : Type 0 where
+-- At most so many calls were made. The count of faults stays at Ok, never falls, and rises where Disk is answered.
+pub record Spares {T : Type 0} (most calls calls_now faults faults_now : ℕ) (result : Result T OpenFault) : Type 0 where
+  pub bounded : calls_now ≤ calls + most
   pub kept : faults ≤ faults_now
   pub ok : OnOk result (faults_now ≡ faults)
   pub failed : IsErrOf result Disk → Rose faults faults_now

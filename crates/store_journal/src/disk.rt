@@ -1,10 +1,13 @@
 //! What the store asks of a disk: five calls on three areas, what they do and when they may fail.
 
-ghost use Rattle.std.specs.Prelude.{◌≡◌, ◌<◌, ◌≤◌, ◌+◌, ◌^◌, ℕ, Bool, true, false, length, IfOk, OnOk, OnErr};
+ghost use Rattle.std.specs.Prelude.{◌≡◌, ◌<◌, ◌≤◌, ◌+◌, ℕ, Bool, true, false, length, IfOk, OnOk, OnErr};
 ghost use Rattle.std.specs.Bool.{OnTrue};
-ghost use Rattle.store_journal.specs.Disk.{Areas, Counts, IsWithin, Reads, Synced, after_write, octets_of, with_synced};
+ghost use Rattle.store_journal.specs.Disk.{Areas, Counts, IsWithin, OthersStay, Reads, Synced, after_write, octets_of, with_synced};
 
 use crate::Area;
+
+/// The last place at which a write may end, in octets.
+pub const LAST_END: u64 = 1 << 62;
 
 /// A call of a disk failed, and the disk has counted it.
 #[derive(Clone, Copy, Debug, PartialEq, Eq, Hash)]
@@ -43,15 +46,15 @@ pub trait Disk {
         ensures kept_synced { synced self.new ≡ synced self.old }
         ensures read { OnOk result (OnTrue tells (Reads (contents self.old) area at into.new)) };
 
-    /// Writes octets over an area from `at` on, and past its end. A write that would end past 2^62 octets
-    /// fails. After a fault nothing is said of what the areas hold.
+    /// Writes octets over an area from `at` on, and past its end. A write that would end past `LAST_END` fails. After a fault nothing is said of what this area holds, but the others hold what they held.
     fn write_at(&mut self, area: Area, at: u64, bytes: &[u8]) -> Result<(), DiskFailed>
         requires some { 0 < length bytes.now }
         requires inside { OnTrue tells (IsWithin (contents self.old) area at) }
         ensures counted { Counts (calls self.old) (calls self.new) (faults self.old) (faults self.new) result }
         ensures written { OnOk result (OnTrue tells (contents self.new ≡ after_write area at bytes.now (contents self.old))) }
+        ensures others { OnTrue tells (OthersStay area (contents self.old) (contents self.new)) }
         ensures unsynced { OnTrue tells (synced self.new ≡ with_synced (synced self.old) area false) }
-        ensures end { OnOk result (at + length bytes.now ≤ 2 ^ 62) };
+        ensures end { OnOk result (at + length bytes.now ≤ LAST_END) };
 
     /// Puts what was written to an area where a stop leaves it.
     fn sync(&mut self, area: Area) -> Result<(), DiskFailed>

@@ -2,6 +2,7 @@
 
 ghost use Rattle.std.specs.Prelude.{◌≡◌, IfOk};
 
+use crate::disk::LAST_END;
 use crate::{Area, Disk, DiskFailed};
 use kn_base::{Memory, Octets, raised};
 use std::alloc::Global;
@@ -12,9 +13,6 @@ use std::path::Path;
 
 /// The mode of a file that is made: its owner may read and write it, since messages are nobody else's.
 const PRIVATE: u32 = 0o600;
-
-/// The last place at which a write may end, in octets.
-const LAST_END: u64 = 1 << 62;
 
 // The file of one area: its name, the file once it is open, and whether the folder was synced since then.
 #[derive(Drop)]

@@ -7,6 +7,7 @@
 #![tactic(auto)]
 
 mod area;
+mod commit;
 mod disk;
 mod fault;
 mod host_disk;

@@ -1,6 +1,6 @@
 //! One area of a disk in memory.
 
-ghost use Rattle.std.specs.Prelude.{◌≡◌, ◌≤◌, true, length, OnOk, OnErr};
+ghost use Rattle.std.specs.Prelude.{◌≡◌, ◌≤◌, ◌<◌, ◌+◌, true, length, OnOk, OnErr};
 ghost use Rattle.store_journal.specs.Disk.{written};
 
 use kn_base::{Memory, Octets};
@@ -29,6 +29,7 @@ impl MemArea {
         requires { at ≤ length self.old.octets.items }
         ensures ok { OnOk result (self.new.octets.items ≡ written self.old.octets.items at bytes.now) }
         ensures err { OnErr result (self.new.octets.items ≡ self.old.octets.items) }
+        ensures full { OnErr result (length self.old.octets.items < at + length bytes.now) }
         ensures synced { self.new.is_synced ≡ self.old.is_synced }
     {
         let behind = self.octets.len() - at;

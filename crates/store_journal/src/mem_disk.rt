@@ -1,15 +1,13 @@
 //! A disk in memory, for tests and for what needs no file. It tells what it holds, and fails when told to.
 
-ghost use Rattle.std.specs.Prelude.{◌≡◌, OnOk, OnErr};
+ghost use Rattle.std.specs.Prelude.{◌≡◌, ◌+◌, ◌<◌, length, OnOk, OnErr, is_err};
 ghost use Rattle.store_journal.specs.Disk.{Counts, IsWithin, after_write};
 
+use crate::disk::LAST_END;
 use crate::mem_area::MemArea;
 use crate::{Area, Disk, DiskFailed};
 use kn_base::{Memory, Octets, raised};
 use std::alloc::Global;
-
-/// The last place at which a write may end, in octets.
-const LAST_END: u64 = 1 << 62;
 
 /// Three areas in memory. The calls whose numbers, from 0, are in the list of failing ones fail, and
 /// do nothing but count. Want of memory is a counted fault.
@@ -25,7 +23,7 @@ pub struct MemDisk {
 
 impl MemDisk {
     ghost use Rattle.store_journal.specs.Disk.{octets_of, all_synced, with_synced};
-    ghost use Rattle.store_journal.specs.MemDisk.{mem_areas, mem_synced, mem_calls, mem_faults};
+    ghost use Rattle.store_journal.specs.MemDisk.{mem_areas, mem_synced, mem_calls, mem_faults, mem_failing, is_due};
 
     /// A disk that holds these octets, on which no call was made. It takes no memory.
     pub fn new(_alloc: Global, a: Octets, b: Octets, pick: Octets, failing: Vec<u64>) -> MemDisk
@@ -33,6 +31,7 @@ impl MemDisk {
         ensures synced { mem_synced result ≡ all_synced }
         ensures calls { mem_calls result ≡ 0 }
         ensures faults { mem_faults result ≡ 0 }
+        ensures failing { mem_failing result ≡ failing.items }
     {
         MemDisk {
             a: MemArea::new(a.into_vec()),
@@ -50,6 +49,7 @@ impl MemDisk {
         ensures synced { mem_synced result ≡ all_synced }
         ensures calls { mem_calls result ≡ 0 }
         ensures faults { mem_faults result ≡ 0 }
+        ensures failing { mem_failing result ≡ mem_failing self }
     {
         MemDisk {
             a: MemArea::new(self.a.octets),
@@ -86,8 +86,10 @@ impl MemDisk {
         self.faults
     }
 
-    // Counts a call, and answers whether it may go on.
+    // Counts a call, and fails where that is its script.
     fn begin(&mut self) -> Result<(), DiskFailed>
+        ensures fails { is_err result ≡ is_due self.old }
+        ensures failing { mem_failing self.new ≡ mem_failing self.old }
         ensures counted { Counts (mem_calls self.old) (mem_calls self.new) (mem_faults self.old) (mem_faults self.new) result }
         ensures areas { mem_areas self.new ≡ mem_areas self.old }
         ensures synced { mem_synced self.new ≡ mem_synced self.old }
@@ -107,6 +109,7 @@ impl MemDisk {
         ensures areas { mem_areas self.new ≡ mem_areas self.old }
         ensures calls { mem_calls self.new ≡ mem_calls self.old }
         ensures faults { mem_faults self.new ≡ mem_faults self.old }
+        ensures failing { mem_failing self.new ≡ mem_failing self.old }
     {
         match area {
             Area::A => self.a.is_synced = is_synced,
@@ -120,9 +123,11 @@ impl MemDisk {
         requires { IsWithin (mem_areas self.old) area at }
         ensures ok { OnOk result (mem_areas self.new ≡ after_write area at bytes.now (mem_areas self.old)) }
         ensures err { OnErr result (mem_areas self.new ≡ mem_areas self.old) }
+        ensures full { OnErr result (length (octets_of (mem_areas self.old) area) < at + length bytes.now) }
         ensures synced { mem_synced self.new ≡ mem_synced self.old }
         ensures calls { mem_calls self.new ≡ mem_calls self.old }
         ensures faults { mem_faults self.new ≡ mem_faults self.old }
+        ensures failing { mem_failing self.new ≡ mem_failing self.old }
     {
         match area {
             Area::A => self.a.write(at, bytes),
@@ -133,8 +138,9 @@ impl MemDisk {
 }
 
 impl Disk for MemDisk {
-    ghost use Rattle.store_journal.specs.MemDisk.{mem_areas, mem_synced, mem_calls, mem_faults};
-    ghost use Rattle.std.specs.Prelude.{true};
+    ghost use Rattle.std.specs.Prelude.{◌+◌, ◌<◌, ◌≤◌, ◌⊎◌, true, false, length, IfOk};
+    ghost use Rattle.store_journal.specs.Disk.{OthersStay, Reads, octets_of, with_synced};
+    ghost use Rattle.store_journal.specs.MemDisk.{mem_areas, mem_synced, mem_calls, mem_faults, mem_failing, is_due};
 
     ghost tells = { true };
 
@@ -146,19 +152,48 @@ impl Disk for MemDisk {
 
     ghost calls = { mem_calls };
 
-    fn size(&mut self, area: Area) -> Result<u64, DiskFailed> {
+    fn size(&mut self, area: Area) -> Result<u64, DiskFailed>
+        ensures counted { Counts (mem_calls self.old) (mem_calls self.new) (mem_faults self.old) (mem_faults self.new) result }
+        ensures kept { mem_areas self.new ≡ mem_areas self.old }
+        ensures kept_synced { mem_synced self.new ≡ mem_synced self.old }
+        ensures size { IfOk result (λ size. size ≡ length (octets_of (mem_areas self.old) area)) }
+        ensures fails { is_err result ≡ is_due self.old }
+        ensures failing { mem_failing self.new ≡ mem_failing self.old }
+    {
         self.begin()?;
         Ok(self.area(area).len() as u64)
     }
 
-    fn read(&mut self, area: Area, at: u64, into: &mut [u8]) -> Result<(), DiskFailed> {
+    fn read(&mut self, area: Area, at: u64, into: &mut [u8]) -> Result<(), DiskFailed>
+        requires { IsWithin (mem_areas self.old) area (at + length into.old) }
+        ensures counted { Counts (mem_calls self.old) (mem_calls self.new) (mem_faults self.old) (mem_faults self.new) result }
+        ensures kept { mem_areas self.new ≡ mem_areas self.old }
+        ensures kept_synced { mem_synced self.new ≡ mem_synced self.old }
+        ensures read { OnOk result (Reads (mem_areas self.old) area at into.new) }
+        ensures fails { is_err result ≡ is_due self.old }
+        ensures failing { mem_failing self.new ≡ mem_failing self.old }
+    {
         self.begin()?;
         let from = at as usize;
         into.copy_from_slice(&self.area(area)[from..from + into.len()]);
         Ok(())
     }
 
-    fn write_at(&mut self, area: Area, at: u64, bytes: &[u8]) -> Result<(), DiskFailed> {
+    /// A write fails where its number is failing or its end passes `LAST_END`, and else only where it makes the area
+    /// longer and finds no memory. After a fault the area holds what it held.
+    fn write_at(&mut self, area: Area, at: u64, bytes: &[u8]) -> Result<(), DiskFailed>
+        requires some { 0 < length bytes.now }
+        requires inside { IsWithin (mem_areas self.old) area at }
+        ensures counted { Counts (mem_calls self.old) (mem_calls self.new) (mem_faults self.old) (mem_faults self.new) result }
+        ensures written { OnOk result (mem_areas self.new ≡ after_write area at bytes.now (mem_areas self.old)) }
+        ensures others { OthersStay area (mem_areas self.old) (mem_areas self.new) }
+        ensures unsynced { mem_synced self.new ≡ with_synced (mem_synced self.old) area false }
+        ensures end { OnOk result (at + length bytes.now ≤ LAST_END) }
+        ensures unwritten { OnErr result (mem_areas self.new ≡ mem_areas self.old) }
+        ensures due { OnOk result (is_due self.old ≡ false) }
+        ensures fails { OnErr result ((is_due self.old ≡ true) ⊎ (LAST_END < at + length bytes.now) ⊎ (length (octets_of (mem_areas self.old) area) < at + length bytes.now)) }
+        ensures failing { mem_failing self.new ≡ mem_failing self.old }
+    {
         self.set_synced(area, false);
         self.begin()?;
         let fits = at + bytes.len() as u64 <= LAST_END;
@@ -169,7 +204,14 @@ impl Disk for MemDisk {
         Err(DiskFailed)
     }
 
-    fn sync(&mut self, area: Area) -> Result<(), DiskFailed> {
+    fn sync(&mut self, area: Area) -> Result<(), DiskFailed>
+        ensures counted { Counts (mem_calls self.old) (mem_calls self.new) (mem_faults self.old) (mem_faults self.new) result }
+        ensures kept { mem_areas self.new ≡ mem_areas self.old }
+        ensures synced { OnOk result (mem_synced self.new ≡ with_synced (mem_synced self.old) area true) }
+        ensures unsynced { OnErr result (mem_synced self.new ≡ mem_synced self.old) }
+        ensures fails { is_err result ≡ is_due self.old }
+        ensures failing { mem_failing self.new ≡ mem_failing self.old }
+    {
         self.begin()?;
         self.set_synced(area, true);
         Ok(())

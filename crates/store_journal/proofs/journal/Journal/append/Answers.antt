@@ -10,7 +10,7 @@ returns-clause-holds_more g c = λ birth payloads is.
     let old = c.args.self.now in
     appended g.D.Disk.tells g.D.Disk.contents old _ birth payloads is c.requires.ended c.requires.reserved refl refl refl refl is.place
     (omega (arith, c.len.ensures, c.deref.ensures.len, ap length c.deref.ensures.value))
-    c.clear.ensures.items
+    c.clear-2.ensures.items
     (subst (λ (l : List ℕ). OnTrue g.D.Disk.tells (g.D.Disk.contents c.write_synced.new.disk ≡ after_write old.area old.end l (g.D.Disk.contents old.disk))) c.deref.ensures.value c.in_default.ensures.written)
 
 pub returns-clause-keeps : goal.returns-clause-keeps
