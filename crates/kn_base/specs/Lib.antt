@@ -1,3 +1,4 @@
+pub mod Calls
 pub mod Clock
 pub mod Count
 pub mod Course
@@ -9,5 +10,6 @@ pub mod MemCourse
 pub mod MemPeer
 pub mod MemReady
 pub mod MemShelf
+pub mod Readings
 pub mod Shelf
 pub mod Talk

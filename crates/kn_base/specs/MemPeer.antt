@@ -1,5 +1,5 @@
 -- What a peer in memory has still to say, and what it went through.
-use Rattle.std.specs.Prelude.{◌≡◌, ℕ, Bool, true, false, List, [], ◌∷◌, ◌++◌, drop, Some}
+use Rattle.std.specs.Prelude.{ℕ, List, [], ◌∷◌, ◌++◌, drop}
 use Rattle.kn_base.specs.declared.mem_take.MemTake.{MemTake}
 use Rattle.kn_base.specs.declared.mem_take.MemTake.TheVariants.{Bytes, Quiet}
 
