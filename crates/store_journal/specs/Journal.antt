@@ -9,7 +9,7 @@ use Rattle.store_journal.specs.declared.area.Area.TheVariants.{A, B, Pick}
 use Rattle.store_journal.specs.declared.fault.OpenFault.{OpenFault}
 use Rattle.store_journal.specs.declared.fault.OpenFault.TheVariants.{Foreign, Disk, Memory}
 use Rattle.store_journal.specs.declared.journal.Journal.{Journal}
-use Rattle.store_journal.specs.declared.open.Found.{Found}
+use Rattle.store_journal.specs.declared.found.Found.{Found}
 
 module _ {D : Type 0} where
   -- the disk of a journal

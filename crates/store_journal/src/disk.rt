@@ -2,7 +2,7 @@
 
 ghost use Rattle.std.specs.Prelude.{◌≡◌, ◌<◌, ◌≤◌, ◌+◌, ℕ, Bool, true, false, length, IfOk, OnOk, OnErr};
 ghost use Rattle.std.specs.Bool.{OnTrue};
-ghost use Rattle.store_journal.specs.Disk.{Areas, Counts, IsWithin, OthersStay, Reads, Synced, after_write, octets_of, with_synced};
+ghost use Rattle.store_journal.specs.Disk.{Areas, CountsCall, IsWithin, OthersStay, Reads, Synced, after_write, octets_of, with_synced};
 
 use crate::Area;
 
@@ -10,7 +10,7 @@ use crate::Area;
 pub const LAST_END: u64 = 1 << 62;
 
 /// A call of a disk failed, and the disk has counted it.
-#[derive(Clone, Copy, Debug, PartialEq, Eq, Hash)]
+#[derive(Clone, Copy, Debug, PartialEq)]
 pub struct DiskFailed;
 
 /// Three areas of octets. Each call counts, and fails only where the disk's count of faults rose.
@@ -33,7 +33,7 @@ pub trait Disk {
 
     /// The number of octets in an area.
     fn size(&mut self, area: Area) -> Result<u64, DiskFailed>
-        ensures counted { Counts (calls self.old) (calls self.new) (faults self.old) (faults self.new) result }
+        ensures counted { CountsCall (calls self.old) (calls self.new) (faults self.old) (faults self.new) result }
         ensures kept { contents self.new ≡ contents self.old }
         ensures kept_synced { synced self.new ≡ synced self.old }
         ensures size { IfOk result (λ size. OnTrue tells (size ≡ length (octets_of (contents self.old) area))) };
@@ -41,7 +41,7 @@ pub trait Disk {
     /// Fills `into` with the octets of an area from `at` on, which is in octets.
     fn read(&mut self, area: Area, at: u64, into: &mut [u8]) -> Result<(), DiskFailed>
         requires { OnTrue tells (IsWithin (contents self.old) area (at + length into.old)) }
-        ensures counted { Counts (calls self.old) (calls self.new) (faults self.old) (faults self.new) result }
+        ensures counted { CountsCall (calls self.old) (calls self.new) (faults self.old) (faults self.new) result }
         ensures kept { contents self.new ≡ contents self.old }
         ensures kept_synced { synced self.new ≡ synced self.old }
         ensures read { OnOk result (OnTrue tells (Reads (contents self.old) area at into.new)) };
@@ -50,7 +50,7 @@ pub trait Disk {
     fn write_at(&mut self, area: Area, at: u64, bytes: &[u8]) -> Result<(), DiskFailed>
         requires some { 0 < length bytes.now }
         requires inside { OnTrue tells (IsWithin (contents self.old) area at) }
-        ensures counted { Counts (calls self.old) (calls self.new) (faults self.old) (faults self.new) result }
+        ensures counted { CountsCall (calls self.old) (calls self.new) (faults self.old) (faults self.new) result }
         ensures written { OnOk result (OnTrue tells (contents self.new ≡ after_write area at bytes.now (contents self.old))) }
         ensures others { OnTrue tells (OthersStay area (contents self.old) (contents self.new)) }
         ensures unsynced { OnTrue tells (synced self.new ≡ with_synced (synced self.old) area false) }
@@ -58,7 +58,7 @@ pub trait Disk {
 
     /// Puts what was written to an area where a stop leaves it.
     fn sync(&mut self, area: Area) -> Result<(), DiskFailed>
-        ensures counted { Counts (calls self.old) (calls self.new) (faults self.old) (faults self.new) result }
+        ensures counted { CountsCall (calls self.old) (calls self.new) (faults self.old) (faults self.new) result }
         ensures kept { contents self.new ≡ contents self.old }
         ensures synced { OnOk result (OnTrue tells (synced self.new ≡ with_synced (synced self.old) area true)) }
         ensures unsynced { OnErr result (synced self.new ≡ synced self.old) };

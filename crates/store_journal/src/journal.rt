@@ -8,7 +8,7 @@ ghost use Rattle.store_journal.specs.Area.{IsPayload, stands, born};
 ghost use Rattle.store_journal.specs.Journal.{IsJournal, IsKept, HoldsMore, HoldsSame, AppendsUnit, IsHandedOut, disk_of, area_of, birth_of, is_broken, left, reserved, Hands, OpensAs, IsCause, IsUnlessDisk, IsUntouched, synced_after};
 
 use crate::commit::{close_gate, write_synced};
-use crate::open::{Found, load};
+use crate::found::{Found, load};
 use crate::unit::{AROUND, payload_size, unit_and_gate};
 use crate::{Area, Disk, DiskFailed, OpenFault};
 use kn_base::{Memory, Octets};

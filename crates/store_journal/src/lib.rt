@@ -7,14 +7,18 @@
 #![tactic(auto)]
 
 mod area;
+mod area_text;
+mod birth;
 mod commit;
 mod disk;
 mod fault;
+mod found;
+mod header;
 mod host_disk;
+mod host_file;
 mod journal;
 mod mem_area;
 mod mem_disk;
-mod open;
 mod unit;
 
 pub use area::Area;

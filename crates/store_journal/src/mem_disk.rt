@@ -1,12 +1,13 @@
 //! A disk in memory, for tests and for what needs no file. It tells what it holds, and fails when told to.
 
-ghost use Rattle.std.specs.Prelude.{◌≡◌, ◌+◌, ◌<◌, length, OnOk, OnErr, is_err};
-ghost use Rattle.store_journal.specs.Disk.{Counts, IsWithin, after_write};
+ghost use Rattle.std.specs.Prelude.{◌≡◌, ◌+◌, ◌<◌, ◌↔◌, length, OnOk, OnErr, IsErr};
+ghost use Rattle.kn_base.specs.Calls.{IsFailing, one_more};
+ghost use Rattle.store_journal.specs.Disk.{CountsCall, IsWithin, after_write};
 
 use crate::disk::LAST_END;
 use crate::mem_area::MemArea;
 use crate::{Area, Disk, DiskFailed};
-use kn_base::{Memory, Octets, raised};
+use kn_base::{MemCalls, Memory, Octets, raised};
 use std::alloc::Global;
 
 /// Three areas in memory. The calls whose numbers, from 0, are in the list of failing ones fail, and
@@ -16,29 +17,26 @@ pub struct MemDisk {
     a: MemArea,
     b: MemArea,
     pick: MemArea,
-    failing: Vec<u64>,
-    calls: u64,
+    calls: MemCalls,
     faults: u64,
 }
 
 impl MemDisk {
     ghost use Rattle.store_journal.specs.Disk.{octets_of, all_synced, with_synced};
-    ghost use Rattle.store_journal.specs.MemDisk.{mem_areas, mem_synced, mem_calls, mem_faults, mem_failing, is_due};
+    ghost use Rattle.store_journal.specs.MemDisk.{mem_areas, mem_synced, mem_calls, mem_faults};
 
     /// A disk that holds these octets, on which no call was made. It takes no memory.
     pub fn new(_alloc: Global, a: Octets, b: Octets, pick: Octets, failing: Vec<u64>) -> MemDisk
         ensures areas { mem_areas result ≡ record { a = a; b = b; pick = pick } }
         ensures synced { mem_synced result ≡ all_synced }
-        ensures calls { mem_calls result ≡ 0 }
+        ensures calls { mem_calls result ≡ record { failing = failing.items; made = 0 } }
         ensures faults { mem_faults result ≡ 0 }
-        ensures failing { mem_failing result ≡ failing.items }
     {
         MemDisk {
             a: MemArea::new(a.into_vec()),
             b: MemArea::new(b.into_vec()),
             pick: MemArea::new(pick.into_vec()),
-            failing,
-            calls: 0,
+            calls: MemCalls::new(failing),
             faults: 0,
         }
     }
@@ -47,16 +45,14 @@ impl MemDisk {
     pub fn anew(self) -> MemDisk
         ensures areas { mem_areas result ≡ mem_areas self }
         ensures synced { mem_synced result ≡ all_synced }
-        ensures calls { mem_calls result ≡ 0 }
+        ensures calls { mem_calls result ≡ record (mem_calls self) { made = 0 } }
         ensures faults { mem_faults result ≡ 0 }
-        ensures failing { mem_failing result ≡ mem_failing self }
     {
         MemDisk {
             a: MemArea::new(self.a.octets),
             b: MemArea::new(self.b.octets),
             pick: MemArea::new(self.pick.octets),
-            failing: self.failing,
-            calls: 0,
+            calls: self.calls.anew(),
             faults: 0,
         }
     }
@@ -74,9 +70,9 @@ impl MemDisk {
 
     /// How many calls were made.
     pub fn calls(&self) -> u64
-        ensures { result ≡ mem_calls self.now }
+        ensures { result ≡ (mem_calls self.now).made }
     {
-        self.calls
+        self.calls.made()
     }
 
     /// How many calls failed.
@@ -88,15 +84,13 @@ impl MemDisk {
 
     // Counts a call, and fails where that is its script.
     fn begin(&mut self) -> Result<(), DiskFailed>
-        ensures fails { is_err result ≡ is_due self.old }
-        ensures failing { mem_failing self.new ≡ mem_failing self.old }
-        ensures counted { Counts (mem_calls self.old) (mem_calls self.new) (mem_faults self.old) (mem_faults self.new) result }
+        ensures fails { IsErr result ↔ IsFailing (mem_calls self.old) }
+        ensures calls { mem_calls self.new ≡ one_more (mem_calls self.old) }
+        ensures counted { CountsCall (mem_calls self.old).made (mem_calls self.new).made (mem_faults self.old) (mem_faults self.new) result }
         ensures areas { mem_areas self.new ≡ mem_areas self.old }
         ensures synced { mem_synced self.new ≡ mem_synced self.old }
     {
-        let number = self.calls;
-        self.calls = raised(number);
-        if self.failing.contains(&number) {
+        if self.calls.next_fails() {
             self.faults = raised(self.faults);
             return Err(DiskFailed);
         }
@@ -109,7 +103,6 @@ impl MemDisk {
         ensures areas { mem_areas self.new ≡ mem_areas self.old }
         ensures calls { mem_calls self.new ≡ mem_calls self.old }
         ensures faults { mem_faults self.new ≡ mem_faults self.old }
-        ensures failing { mem_failing self.new ≡ mem_failing self.old }
     {
         match area {
             Area::A => self.a.is_synced = is_synced,
@@ -127,7 +120,6 @@ impl MemDisk {
         ensures synced { mem_synced self.new ≡ mem_synced self.old }
         ensures calls { mem_calls self.new ≡ mem_calls self.old }
         ensures faults { mem_faults self.new ≡ mem_faults self.old }
-        ensures failing { mem_failing self.new ≡ mem_failing self.old }
     {
         match area {
             Area::A => self.a.write(at, bytes),
@@ -140,7 +132,7 @@ impl MemDisk {
 impl Disk for MemDisk {
     ghost use Rattle.std.specs.Prelude.{◌+◌, ◌<◌, ◌≤◌, ◌⊎◌, true, false, length, IfOk};
     ghost use Rattle.store_journal.specs.Disk.{OthersStay, Reads, octets_of, with_synced};
-    ghost use Rattle.store_journal.specs.MemDisk.{mem_areas, mem_synced, mem_calls, mem_faults, mem_failing, is_due};
+    ghost use Rattle.store_journal.specs.MemDisk.{mem_areas, mem_synced, mem_calls, mem_faults};
 
     ghost tells = { true };
 
@@ -150,15 +142,15 @@ impl Disk for MemDisk {
 
     ghost faults = { mem_faults };
 
-    ghost calls = { mem_calls };
+    ghost calls = { λ disk. (mem_calls disk).made };
 
     fn size(&mut self, area: Area) -> Result<u64, DiskFailed>
-        ensures counted { Counts (mem_calls self.old) (mem_calls self.new) (mem_faults self.old) (mem_faults self.new) result }
+        ensures counted { CountsCall (mem_calls self.old).made (mem_calls self.new).made (mem_faults self.old) (mem_faults self.new) result }
         ensures kept { mem_areas self.new ≡ mem_areas self.old }
         ensures kept_synced { mem_synced self.new ≡ mem_synced self.old }
         ensures size { IfOk result (λ size. size ≡ length (octets_of (mem_areas self.old) area)) }
-        ensures fails { is_err result ≡ is_due self.old }
-        ensures failing { mem_failing self.new ≡ mem_failing self.old }
+        ensures fails { IsErr result ↔ IsFailing (mem_calls self.old) }
+        ensures calls { mem_calls self.new ≡ one_more (mem_calls self.old) }
     {
         self.begin()?;
         Ok(self.area(area).len() as u64)
@@ -166,12 +158,12 @@ impl Disk for MemDisk {
 
     fn read(&mut self, area: Area, at: u64, into: &mut [u8]) -> Result<(), DiskFailed>
         requires { IsWithin (mem_areas self.old) area (at + length into.old) }
-        ensures counted { Counts (mem_calls self.old) (mem_calls self.new) (mem_faults self.old) (mem_faults self.new) result }
+        ensures counted { CountsCall (mem_calls self.old).made (mem_calls self.new).made (mem_faults self.old) (mem_faults self.new) result }
         ensures kept { mem_areas self.new ≡ mem_areas self.old }
         ensures kept_synced { mem_synced self.new ≡ mem_synced self.old }
         ensures read { OnOk result (Reads (mem_areas self.old) area at into.new) }
-        ensures fails { is_err result ≡ is_due self.old }
-        ensures failing { mem_failing self.new ≡ mem_failing self.old }
+        ensures fails { IsErr result ↔ IsFailing (mem_calls self.old) }
+        ensures calls { mem_calls self.new ≡ one_more (mem_calls self.old) }
     {
         self.begin()?;
         let from = at as usize;
@@ -184,15 +176,15 @@ impl Disk for MemDisk {
     fn write_at(&mut self, area: Area, at: u64, bytes: &[u8]) -> Result<(), DiskFailed>
         requires some { 0 < length bytes.now }
         requires inside { IsWithin (mem_areas self.old) area at }
-        ensures counted { Counts (mem_calls self.old) (mem_calls self.new) (mem_faults self.old) (mem_faults self.new) result }
+        ensures counted { CountsCall (mem_calls self.old).made (mem_calls self.new).made (mem_faults self.old) (mem_faults self.new) result }
         ensures written { OnOk result (mem_areas self.new ≡ after_write area at bytes.now (mem_areas self.old)) }
         ensures others { OthersStay area (mem_areas self.old) (mem_areas self.new) }
         ensures unsynced { mem_synced self.new ≡ with_synced (mem_synced self.old) area false }
         ensures end { OnOk result (at + length bytes.now ≤ LAST_END) }
         ensures unwritten { OnErr result (mem_areas self.new ≡ mem_areas self.old) }
-        ensures due { OnOk result (is_due self.old ≡ false) }
-        ensures fails { OnErr result ((is_due self.old ≡ true) ⊎ (LAST_END < at + length bytes.now) ⊎ (length (octets_of (mem_areas self.old) area) < at + length bytes.now)) }
-        ensures failing { mem_failing self.new ≡ mem_failing self.old }
+        ensures due { OnOk result (¬ IsFailing (mem_calls self.old)) }
+        ensures fails { OnErr result (IsFailing (mem_calls self.old) ⊎ (LAST_END < at + length bytes.now) ⊎ (length (octets_of (mem_areas self.old) area) < at + length bytes.now)) }
+        ensures calls { mem_calls self.new ≡ one_more (mem_calls self.old) }
     {
         self.set_synced(area, false);
         self.begin()?;
@@ -205,12 +197,12 @@ impl Disk for MemDisk {
     }
 
     fn sync(&mut self, area: Area) -> Result<(), DiskFailed>
-        ensures counted { Counts (mem_calls self.old) (mem_calls self.new) (mem_faults self.old) (mem_faults self.new) result }
+        ensures counted { CountsCall (mem_calls self.old).made (mem_calls self.new).made (mem_faults self.old) (mem_faults self.new) result }
         ensures kept { mem_areas self.new ≡ mem_areas self.old }
         ensures synced { OnOk result (mem_synced self.new ≡ with_synced (mem_synced self.old) area true) }
         ensures unsynced { OnErr result (mem_synced self.new ≡ mem_synced self.old) }
-        ensures fails { is_err result ≡ is_due self.old }
-        ensures failing { mem_failing self.new ≡ mem_failing self.old }
+        ensures fails { IsErr result ↔ IsFailing (mem_calls self.old) }
+        ensures calls { mem_calls self.new ≡ one_more (mem_calls self.old) }
     {
         self.begin()?;
         self.set_synced(area, true);

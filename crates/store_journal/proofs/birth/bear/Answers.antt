@@ -3,7 +3,7 @@ use Rattle.std.specs.Bool.{OnTrue}
 use Rattle.store_journal.specs.Disk.{Areas}
 use Rattle.store_journal.specs.Journal.{after_birth}
 use Rattle.store_journal.proofs.Texts.{stored_birth}
-use Rattle.store_journal.proofs.open.bear.Goals as goal
+use Rattle.store_journal.proofs.birth.bear.Goals as goal
 
 pub returns-clause-stored : goal.returns-clause-stored
 returns-clause-stored g c =

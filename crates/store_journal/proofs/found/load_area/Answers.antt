@@ -3,7 +3,7 @@ use Rattle.std.specs.Bool.{OnTrue}
 use Rattle.store_journal.specs.Area.{payloads_in, IsText, IsStored, units_end}
 use Rattle.store_journal.specs.Disk.{Areas, octets_of}
 use Rattle.store_journal.proofs.Texts.{stored_read, opens_read, foreign_read, place_within}
-use Rattle.store_journal.proofs.open.load_area.Goals as goal
+use Rattle.store_journal.proofs.found.load_area.Goals as goal
 
 pub returns-in-Ok-clause-found : goal.returns-in-Ok-clause-found
 returns-in-Ok-clause-found g c = λ birth.

@@ -6,7 +6,7 @@ use Rattle.store_journal.specs.Journal.{OpensAs}
 use Rattle.store_journal.specs.declared.area.Area.TheVariants.{A}
 use Rattle.store_journal.proofs.Units.{payloads_none}
 use Rattle.store_journal.proofs.Texts.{opens_unborn, stored_none}
-use Rattle.store_journal.proofs.open.load.Goals as goal
+use Rattle.store_journal.proofs.found.load.Goals as goal
 
 pub returns-in_ok-bear-in-None-clause-found : goal.returns-in_ok-bear-in-None-clause-found
 returns-in_ok-bear-in-None-clause-found g c =
