@@ -7,8 +7,11 @@ ghost use Rattle.store_journal.specs.declared.area.Area.{Area};
 use crate::header::{HEADER, header_size, told_birth};
 use crate::unit::{AROUND, CLOSED, OPEN, payload_size};
 
+/// How many octets an area without payloads has: a header and a closed gate.
+pub const FRESH: usize = 17;
+
 /// The octets of an area without payloads.
-pub fn fresh_area(birth: u64) -> [u8; 17]
+pub fn fresh_area(birth: u64) -> [u8; FRESH]
     ensures { result ≡ area_text birth [] 0 }
 {
     let [a, b, c, d, e, f, g, h] = birth.to_be_bytes();

@@ -6,15 +6,10 @@ ghost use Rattle.store_journal.specs.Area.{picked, stands, unborn, IsStored};
 ghost use Rattle.store_journal.specs.Disk.{Spends, all_synced, octets_of};
 ghost use Rattle.store_journal.specs.Journal.{IsCause, IsMore, IsUnlessDisk, IsUntouched, Spares, after_birth};
 
-use crate::area_text::fresh_area;
+use crate::area_text::{FRESH, fresh_area};
 use crate::commit::write_synced;
+use crate::pick::PICKS_A;
 use crate::{Area, Disk, DiskFailed, OpenFault};
-
-/// The octets of an area without payloads.
-const FRESH: u64 = 17;
-
-/// The octet of Pick that a birth writes. It picks the area A.
-const PICKS_A: u8 = 1;
 
 // Refuses an area of a store that isn't born, where it holds more than a birth would write.
 fn refuse_more<D: Disk>(disk: &mut D, area: Area) -> Result<(), OpenFault>
@@ -24,8 +19,11 @@ fn refuse_more<D: Disk>(disk: &mut D, area: Area) -> Result<(), OpenFault>
     ensures kept_synced { D.synced disk.new ≡ D.synced disk.old }
     ensures spares { Spares 1 (D.calls disk.old) (D.calls disk.new) (D.faults disk.old) (D.faults disk.new) result }
 {
-    if disk.size(area)? > FRESH {
-        return Err(OpenFault::Foreign { area, at: FRESH });
+    if disk.size(area)? > FRESH as u64 {
+        return Err(OpenFault::Foreign {
+            area,
+            at: FRESH as u64,
+        });
     }
     Ok(())
 }

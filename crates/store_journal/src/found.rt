@@ -9,11 +9,9 @@ ghost use Rattle.store_journal.specs.Journal.{IsFound, IsCause, IsUnlessDisk, Is
 use crate::area_text::check;
 use crate::birth::bear;
 use crate::header::HEADER;
+use crate::pick::read_pick;
 use crate::{Area, Disk, OpenFault};
 use std::alloc::Global;
-
-/// The first octet of Pick that picks the area B.
-const PICKS_B: u8 = 2;
 
 /// What an opening found: the picked area, its octets, the place of the first unit in them, and the
 /// place of the closed gate in the area.
@@ -23,26 +21,6 @@ pub struct Found {
     pub octets: Vec<u8>,
     pub place: usize,
     pub end: u64,
-}
-
-// The area that Pick picks, if it holds an octet.
-fn read_pick<D: Disk>(disk: &mut D) -> Result<Option<Area>, OpenFault>
-    ensures pick { IfOk result (λ pick. OnTrue D.tells (pick ≡ picked (D.contents disk.old).pick)) }
-    ensures err { IfErr result (λ fault. fault ≡ OpenFault.Disk) }
-    ensures kept { D.contents disk.new ≡ D.contents disk.old }
-    ensures kept_synced { D.synced disk.new ≡ D.synced disk.old }
-    ensures spares { Spares 2 (D.calls disk.old) (D.calls disk.new) (D.faults disk.old) (D.faults disk.new) result }
-{
-    if disk.size(Area::Pick)? == 0 {
-        return Ok(None);
-    }
-    let mut first = [0u8];
-    disk.read(Area::Pick, 0, &mut first)?;
-    Ok(Some(if first[0] == PICKS_B {
-        Area::B
-    } else {
-        Area::A
-    }))
 }
 
 // All octets of an area, in one read.

@@ -19,6 +19,7 @@ mod host_file;
 mod journal;
 mod mem_area;
 mod mem_disk;
+mod pick;
 mod unit;
 
 pub use area::Area;
