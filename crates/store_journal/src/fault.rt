@@ -7,7 +7,7 @@ use crate::{Area, DiskFailed};
 use std::alloc::AllocError;
 
 /// Why an opening, or the handing out of its payloads, stopped.
-#[derive(Clone, Copy, Debug, PartialEq, Eq)]
+#[derive(Clone, Copy, Debug, PartialEq)]
 pub enum OpenFault {
     /// The areas are no store of ours: the first octet that doesn't fit stands in this area at this place.
     Foreign {

@@ -6,14 +6,20 @@
 //! Its one contract: what an opening hands out is exactly what was appended with `Ok`, in order.
 #![tactic(auto)]
 
-mod again;
 mod area;
+mod area_text;
+mod birth;
+mod commit;
 mod disk;
 mod fault;
+mod found;
+mod header;
 mod host_disk;
+mod host_file;
 mod journal;
+mod mem_area;
 mod mem_disk;
-mod open;
+mod pick;
 mod unit;
 
 pub use area::Area;

@@ -1,8 +1,8 @@
 use Rattle.std.proofs.Common.{◌≡◌, ◌+◌, drop, arith, sym}
 use Rattle.store_journal.specs.Area.{common_front, magic}
 use Rattle.store_journal.proofs.Fronts.{front_more, front_differs, front_ends, header_front_short}
-use Rattle.store_journal.proofs.open.header_size.Goals as goal
-use Rattle.store_journal.proofs.open.header_size.Goals.{then-place-octets-via-then-place-octets, then-place-octets-via-else-place-octets+then-octets-place}
+use Rattle.store_journal.proofs.header.header_size.Goals as goal
+use Rattle.store_journal.proofs.header.header_size.Goals.{then-place-octets-via-then-place-octets, then-place-octets-via-else-place-octets+then-octets-place}
 
 pub returns-then-place-octets : goal.returns-then-place-octets
 returns-then-place-octets c = sym (header_front_short c.args.octets.now c.front.place (omega arith) (

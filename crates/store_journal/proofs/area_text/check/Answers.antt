@@ -1,6 +1,6 @@
 use Rattle.std.proofs.Common.{arith, sym, ◌∙◌}
 use Rattle.store_journal.proofs.Texts.{text_read}
-use Rattle.store_journal.proofs.open.check.Goals as goal
+use Rattle.store_journal.proofs.area_text.check.Goals as goal
 
 pub returns-clause-text : goal.returns-clause-text
 returns-clause-text c =

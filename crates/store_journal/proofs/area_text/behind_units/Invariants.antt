@@ -1,6 +1,6 @@
 use Rattle.std.proofs.Common.{◌≡◌, ◌≤◌, ◌+◌, ◌-◌, length, drop}
 use Rattle.store_journal.specs.Area.{units, payloads_in}
-use Rattle.store_journal.proofs.open.behind_units.Given as goal
+use Rattle.store_journal.proofs.area_text.behind_units.Given as goal
 
 abbrev pub invariant-units : goal.invariant-units
 invariant-units l =

@@ -1,6 +1,6 @@
 use Rattle.std.proofs.Common.{drop, arith, ◌∙◌}
 use Rattle.store_journal.proofs.Units.{step, stop, length-units_none}
-use Rattle.store_journal.proofs.open.behind_units.Goals as goal
+use Rattle.store_journal.proofs.area_text.behind_units.Goals as goal
 
 pub units-preserved : goal.units-preserved
 units-preserved c =
