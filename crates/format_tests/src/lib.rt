@@ -3,3 +3,5 @@
 
 #[cfg(test)]
 mod alphabet;
+#[cfg(test)]
+mod split;
