@@ -1,11 +1,12 @@
 -- What the elements of a header say of the header.
-use Rattle.std.proofs.Common.{◌≡◌, ℕ, zero, suc, ◌+◌, ◌-◌, ◌<◌, ◌≤◌, true, ltb, List, [], ◌∷◌, ◌++◌, length, get_or, take, drop, Option, Some, None, refl, sym, ap, subst, ◌∙◌, arith, inl, inr, length-append}
+use Rattle.std.proofs.Common.{◌≡◌, ℕ, zero, suc, ◌+◌, ◌-◌, ◌%◌, ◌<◌, ◌≤◌, Bool, true, false, cond, eqb, ltb, List, [], ◌∷◌, ◌++◌, length, get_or, take, drop, Option, Some, None, refl, sym, ap, subst, ◌∙◌, arith, inl, inr, length-append}
 use Rattle.std.specs.Option.{option_or}
-use Rattle.std.proofs.lemmas.Bool.{cases_Bool, lt-ltb}
+use Rattle.std.proofs.lemmas.Bool.{cases_Bool, lt-ltb, ne_eqb}
 use Rattle.std.proofs.lemmas.List.{take_rest}
 use Rattle.std.proofs.lemmas.List.Concat.{flat_map-append}
 use Rattle.concat_split.specs.declared.joint.Joint.{Joint}
 use Rattle.sms_record.specs.Header.{Element, element, elements, IsHeader, IsHeaderOrNone}
+use Rattle.sms_record.specs.Room.{header_len}
 use Rattle.concat_split.specs.Header.{header, joint_of, first_joint, reference, joint_element, with_element, header_of, Says, BeginsHeader, IsMalformedAt}
 use Rattle.concat_split.specs.Elements.{BeginsElements, IsFault, Found}
 use Rattle.concat_split.proofs.Elements.{made, headed, elements_not_one}
@@ -144,3 +145,18 @@ out_says udh total part number says more =
           let e : with_element udh (joint_element (reference number part) total part) ≡ header (own.0 ++ joining (reference number part) total part ∷ []) = ap (λ (w : List ℕ). with_element w (joint_element (reference number part) total part)) own.1 ∙ header-with_element own.0 (reference number part) total part in
           rw test (inr (own.0 ++ joining (reference number part) total part ∷ [], e, sym (first_joint-append own.0 (reference number part) total part (sym own.2))))
     ]
+
+-- the parts of one message share their reference: its parts 1, 2, .. go out as messages that follow each other
+pub reference-shared : (first k : ℕ) → reference (first + k) (1 + k) ≡ reference first 1
+reference-shared first k = let same : first + k + 257 - (1 + k) ≡ first + 257 - 1 = omega arith in ap (λ (n : ℕ). n % 256) same
+
+length-with_element : (is_joined : Bool) (udh element : List ℕ) → length element ≡ 5 → length (cond is_joined (with_element udh element) udh) ≡ cond is_joined (cond (eqb (length udh) 0) 6 (length udh + 5)) (length udh)
+length-with_element false udh element five = refl
+length-with_element true [] element five = omega (arith, five)
+length-with_element true (octets ∷ rest) element five =
+    let some : eqb (suc (length rest)) 0 ≡ false = ne_eqb (suc (length rest)) 0 (λ e. omega arith) in
+    rw some (omega (arith, five, length-append rest element))
+
+-- the header that goes out has as many octets as its room is counted with
+pub length-header_of : (udh : List ℕ) (total part number : ℕ) → length (header_of udh total part number) ≡ header_len (length udh) total
+length-header_of udh total part number = length-with_element (ltb 1 total) udh (joint_element (reference number part) total part) refl

@@ -5,7 +5,7 @@ ghost use Rattle.std.specs.Prelude.{◌≡◌};
 use kn_base::Memory;
 
 /// Why a text has no parts.
-#[derive(Clone, Copy, Debug, PartialEq, Eq, Hash)]
+#[derive(Clone, Copy, Debug, PartialEq)]
 pub enum SplitFault {
     /// A part has room for so many units, and what stands round its text leaves less than 2 of them.
     NoRoom { room: usize, around: usize },
@@ -25,7 +25,7 @@ impl From<Memory> for SplitFault {
 }
 
 /// Why octets are no user data header.
-#[derive(Clone, Copy, Debug, PartialEq, Eq, Hash)]
+#[derive(Clone, Copy, Debug, PartialEq)]
 pub enum HeaderFault {
     /// The first `at` octets begin a header, and the first `at + 1` don't, or there are no more.
     Malformed { at: usize },

@@ -2,6 +2,7 @@
 
 ghost use Rattle.std.specs.Prelude.{◌≡◌, ◌≢◌, ◌<◌, ◌≤◌, ◌^◌, ◌⊎◌, ◌+◌, ℕ, MatchBool, List, [], length, None, Some, Ok, IfOk, IfErr};
 ghost use Rattle.sms_record.specs.Header.{Element, elements, IsHeaderOrNone};
+ghost use Rattle.sms_record.specs.Room.{header_len};
 ghost use Rattle.concat_split.specs.Header.{header, header_of, first_joint, joint_of, reference, Says, IsFaultOf};
 ghost use Rattle.concat_split.specs.Elements.{IsFault, Found};
 
@@ -126,6 +127,9 @@ pub fn udh_of(alloc: Global, sms: &Sms, number: u64) -> Result<Octets, Memory>
     requires short { length sms.now.udh ≤ 140 }
     ensures value { IfOk result (λ udh. udh ≡ header_of sms.now.udh sms.now.total sms.now.part number) }
 
+    // It has as many octets as the room beside it was counted with.
+    ensures len { IfOk result (λ udh. length udh ≡ header_len (length sms.now.udh) sms.now.total) }
+
     // It is well-formed, and where the request's own header says nothing of concatenation, it says which part this is.
     ensures formed { IfOk result (λ udh. IsHeaderOrNone udh) }
     ensures joined { Says sms.now.udh None → 1 < sms.now.total → IfOk result (λ udh. Says udh (Some (record {
@@ -136,8 +140,3 @@ pub fn udh_of(alloc: Global, sms: &Sms, number: u64) -> Result<Octets, Memory>
 {
     udh_as_defined(alloc, sms, number)
 }
-
-/// The parts of one message share their reference: its parts 1, 2, .. go out as messages that follow each other.
-pub fn parts_share_a_reference()
-    ensures { (first k : ℕ) → reference (first + k) (1 + k) ≡ reference first 1 }
-{}

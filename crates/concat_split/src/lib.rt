@@ -16,11 +16,8 @@ mod part;
 mod splitting;
 
 pub use fault::{HeaderFault, SplitFault};
-pub use header::{parts_share_a_reference, read_udh, udh_of};
+pub use header::{read_udh, udh_of};
 pub use joint::Joint;
 pub use limits::Limits;
 pub use part::Part;
 pub use splitting::split;
-
-#[cfg(test)]
-mod tests;
