@@ -9,7 +9,7 @@ use Rattle.kn_base.specs.declared.source.Take.TheVariants as take_is
 use Rattle.kn_base.specs.Count.{Counts}
 use Rattle.kn_base.specs.Course.{Course, Hears, Takes, Says}
 use Rattle.kn_base.specs.Talk.{said_of}
-use Rattle.kn_base.specs.Script.{octets_of, with_octets, some_answers}
+use Rattle.kn_base.specs.Script.{octets_of, with_octets, some_answers, AreOctetsNext}
 use Rattle.kn_base.specs.MemPeer.{answers_left, IsReady}
 use Rattle.kn_base.proofs.Talks.{said_of-append}
 
@@ -56,16 +56,23 @@ front_rest (answer ∷ rest) first octets some stands is = ap (λ x. x ∷ rest)
 pub ready_at : (at : ℕ) (octets : List ℕ) (answers rest : List MemTake) → answers ≡ Bytes octets ∷ rest → at < length octets → IsReady at answers
 ready_at at octets answers rest front some = let P : List MemTake → Type 0 = λ xs. IsReady at xs in subst P (sym front) some
 
--- what is left of the answers before and after octets of the first were taken
-pub left_now : (at n : ℕ) (octets : List ℕ) (answers rest : List MemTake) → answers ≡ Bytes octets ∷ rest → IsReady at answers
-    → (at < length octets) × (answers_left at answers ≡ Bytes (drop at octets) ∷ some_answers rest)
-    × (answers_left (at + n) answers ≡ with_octets (drop n (drop at octets)) (some_answers rest))
-left_now at n octets answers rest front ready =
-    let some : at < length octets = let P : List MemTake → Type 0 = λ xs. IsReady at xs in subst P front ready in (
-      some,
-      ap (answers_left at) front ∙ answers_left-some at octets rest some,
+-- what is left before and after octets of the first answer were taken
+pub next_octets : (at n : ℕ) (answers : List MemTake) (first : MemTake) (octets : List ℕ) → 0 < length answers → first ≡ get_or answers 0 first
+    → first ≡ Bytes octets → IsReady at answers
+    → (at < length octets) × (answers_left at answers ≡ Bytes (drop at octets) ∷ some_answers (drop 1 answers))
+    × (answers_left (at + n) answers ≡ with_octets (drop n (drop at octets)) (some_answers (drop 1 answers)))
+next_octets at n answers first octets some stands is ready =
+    let rest = drop 1 answers in
+    let front = front_rest answers first octets some stands is in
+    let within : at < length octets = let P : List MemTake → Type 0 = λ xs. IsReady at xs in subst P front ready in (
+      within,
+      ap (answers_left at) front ∙ answers_left-some at octets rest within,
       ap (answers_left (at + n)) front ∙ ap (λ xs. with_octets xs (some_answers rest)) (sym (drop-drop n at octets)),
     )
+
+-- octets are next
+pub octets_next : (octets : List ℕ) (left rest : List MemTake) → left ≡ Bytes octets ∷ rest → AreOctetsNext left
+octets_next octets left rest is = let P : List MemTake → Type 0 = λ xs. AreOctetsNext xs in subst P (sym is) tt
 
 -- a peer in memory with these counts, these answers left and these pieces
 abbrev pub course_of : Counts → List MemTake → List Piece → Course

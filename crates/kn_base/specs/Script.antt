@@ -47,12 +47,13 @@ pub record IsWant (old new : Script) (before after : Counts) : Type 0 where
   pub script : new ≡ after_call old old.answers
   pub counts : after ≡ record before { starved = next_count before.starved }
 
--- The next answer was used up: it is a quiet.
-pub record IsNextQuiet (old new : Script) : Type 0 where
+-- The next answer was used up, and counted once: it is a quiet.
+pub record IsNextQuiet (old new : Script) (before after : Counts) : Type 0 where
   pub goes : ¬ IsFailing old.calls
   pub rest : List MemTake
   pub next : old.answers ≡ Quiet ∷ rest
   pub script : new ≡ after_call old rest
+  pub counts : after ≡ record before { quiets = next_count before.quiets }
 
 -- As many octets of the next answer were used up as it has and there is room for.
 pub record IsNextOctets (room n : ℕ) (old new : Script) : Type 0 where
@@ -63,12 +64,18 @@ pub record IsNextOctets (room n : ℕ) (old new : Script) : Type 0 where
   pub count : n ≡ min room (length octets)
   pub script : new ≡ after_call old (with_octets (drop n octets) rest)
 
+-- the next answer has octets, which take memory
+abbrev pub AreOctetsNext : List MemTake → Type 0
+AreOctetsNext [] = ⊥
+AreOctetsNext (Bytes octets ∷ answers) = Unit {0}
+AreOctetsNext (Quiet ∷ answers) = ⊥
+
 -- what a take answers with room for so many octets: without answers left it is End, whether it is to fail or not
 abbrev pub AnswersTake : ℕ → Take → Script → Script → Counts → Counts → Type 0
 AnswersTake room (take_is.Bytes n) old new before after = IsNextOctets room n old new
 AnswersTake room take_is.End old new before after = (old.answers ≡ []) × (new ≡ after_call old [])
-AnswersTake room take_is.Quiet old new before after = IsNextQuiet old new
-AnswersTake room take_is.Failed old new before after = (old.answers ≢ []) × (IsFault old new before after ⊎ IsWant old new before after)
+AnswersTake room take_is.Quiet old new before after = IsNextQuiet old new before after
+AnswersTake room take_is.Failed old new before after = (old.answers ≢ [] × IsFault old new before after) ⊎ (AreOctetsNext old.answers × IsWant old new before after)
 
 -- what a give answers: it takes all octets, unless it fails
 abbrev pub AnswersGive : List ℕ → Give → Script → Script → Counts → Counts → Type 0
