@@ -2,21 +2,16 @@
 use Rattle.std.specs.Prelude.{◌≡◌, ◌⊎◌, ℕ, List, [], length, map, All, sum_by, Option, IfSome, IsSomeAnd}
 use Rattle.store_journal.specs.Area.{Standing, unborn, born, foreign, stands}
 use Rattle.store_journal.specs.Disk.{Areas}
-use Rattle.sms_record.specs.declared.sms.Sms.{Sms}
+pub use Rattle.sms_record.specs.declared.entry.accept.Accept.{Accept}
 use Rattle.sms_record.specs.Entry.{IsAccept, accept_octets}
-
--- messages that were accepted together, and when
-pub record Accept : Type 0 where
-  pub time : ℕ
-  pub parts : List Sms
 
 -- it is in the grammar of entries
 abbrev pub IsEntry : Accept → Type 0
-IsEntry accept = IsAccept accept.time accept.parts
+IsEntry accept = IsAccept accept
 
 -- the payload that it is kept as
 abbrev pub entry : Accept → List ℕ
-entry accept = accept_octets accept.time accept.parts
+entry accept = accept_octets accept
 
 -- the payloads that all are kept as, in their order
 abbrev pub entries : List Accept → List (List ℕ)

@@ -7,12 +7,13 @@ ghost use Rattle.sendsms_http.specs.Deeds.{MayBeHanded};
 ghost use Rattle.store_journal.specs.Area.{stands, unborn, born};
 ghost use Rattle.store_journal.specs.declared.area.Area.{Area};
 ghost use Rattle.store_journal.specs.Journal.{IsJournal, IsKept, HoldsMore, disk_of, left, birth_of};
-ghost use Rattle.boxes_main.specs.Accepts.{Accept, IsEntry, entry, entries, StandsFor, IsForeign, IsLeftAlone};
+ghost use Rattle.sms_record.specs.declared.entry.accept.Accept.{Accept};
+ghost use Rattle.boxes_main.specs.Accepts.{IsEntry, entry, entries, StandsFor, IsForeign, IsLeftAlone};
 ghost use Rattle.boxes_main.specs.Store.{IsStore, IsOpen, GainsEntry, Refuses, RefusesAppend, disk_in, birth_in, waiting_in, is_store_broken, is_by_disk};
 
-use kn_base::{Memory, Octets};
+use kn_base::{Items, Memory, Octets};
 use sendsms_http::{Acceptor, Refusal, Reply};
-use sms_record::entry::{read_accept, write_accept};
+use sms_record::entry::{Accept, read_accept, write_accept};
 use sms_record::{RecordFault, Sms};
 use std::alloc::Global;
 use store_journal::{Disk, DiskFailed, Journal, OpenFault};
@@ -45,7 +46,7 @@ fn count_messages(alloc: Global, payload: &Octets) -> Result<u64, StoreFault>
     ensures disk { result ≡ Err StoreFault.Disk → ⊥ }
 {
     match read_accept(alloc, payload.as_slice()) {
-        Ok(accept) => Ok(accept.1.len() as u64),
+        Ok(accept) => Ok(accept.parts.len() as u64),
         Err(RecordFault::Memory) => Err(StoreFault::Memory),
         Err(RecordFault::Short) => Err(StoreFault::Foreign),
         Err(RecordFault::Malformed { .. }) => Err(StoreFault::Foreign),
@@ -110,26 +111,26 @@ impl<D: Disk> Store<D> {
         self.journal.is_broken()
     }
 
-    /// Records messages at a time, in Unix seconds, as one entry on the disk.
-    pub fn accept(&mut self, parts: &[Sms], time: u64) -> Result<Reply, Refusal>
+    /// Records messages that were taken at one time as one entry on the disk.
+    pub fn accept(&mut self, accept: &Accept) -> Result<Reply, Refusal>
         requires kept { IsOpen D.contents self.old }
-        requires fits { MayBeHanded parts.now time }
-        ensures ok { OnOk result (GainsEntry D.contents self.old self.new (record { time = time; parts = parts.now })) }
-        ensures reply { IfOk result (λ reply. reply ≡ Reply.Accepted (waiting_in self.old + 1) (length parts.now) true) }
-        ensures refused { IfErr result (Refuses D.contents D.faults self.old self.new (length parts.now)) }
+        requires fits { MayBeHanded accept.now.parts accept.now.time }
+        ensures ok { OnOk result (GainsEntry D.contents self.old self.new accept.now) }
+        ensures reply { IfOk result (λ reply. reply ≡ Reply.Accepted (waiting_in self.old + 1) (length accept.now.parts) true) }
+        ensures refused { IfErr result (Refuses D.contents D.faults self.old self.new (length accept.now.parts)) }
         ensures broken { is_store_broken self.new ≡ is_by_disk result }
         ensures faults { D.faults (disk_in self.old) ≤ D.faults (disk_in self.new) }
         ensures told { is_some (D.contents (disk_in self.new)) ≡ is_some (D.contents (disk_in self.old)) }
     {
         let held = self.waiting;
-        let count = parts.len() as u32;
+        let count = accept.parts.len() as u32;
         if held > QUEUE_LIMIT - u64::from(count) {
             return Err(Refusal::Full {
                 held,
                 limit: QUEUE_LIMIT,
             });
         }
-        match self.append_entry(parts, time) {
+        match self.append_entry(accept) {
             Ok(()) => {
                 self.waiting = held + u64::from(count);
                 Ok(Reply::Accepted {
@@ -143,12 +144,12 @@ impl<D: Disk> Store<D> {
     }
 
     /// Puts an entry last in the journal.
-    fn append_entry(&mut self, parts: &[Sms], time: u64) -> Result<(), Refusal>
+    fn append_entry(&mut self, accept: &Accept) -> Result<(), Refusal>
         requires kept { IsKept D.contents self.old.journal }
         requires handed_out { left self.old.journal ≡ [] }
-        requires fits { MayBeHanded parts.now time }
+        requires fits { MayBeHanded accept.now.parts accept.now.time }
         ensures same { self.new ≡ record self.old { journal = self.new.journal } }
-        ensures ok { OnOk result (HoldsMore D.contents self.old.journal self.new.journal (accept_octets time parts.now ∷ [])) }
+        ensures ok { OnOk result (HoldsMore D.contents self.old.journal self.new.journal (accept_octets accept.now ∷ [])) }
         ensures refused { IfErr result (RefusesAppend D.contents D.faults self.old.journal self.new.journal) }
         ensures broken { is_store_broken self.new ≡ is_by_disk result }
         ensures nothing_left { left self.new.journal ≡ [] }
@@ -156,7 +157,7 @@ impl<D: Disk> Store<D> {
         ensures told { is_some (D.contents (disk_in self.new)) ≡ is_some (D.contents (disk_in self.old)) }
     {
         let mut entry = Octets::new(self.alloc);
-        if let Err(Memory) = write_accept(&mut entry, time, parts) {
+        if let Err(Memory) = write_accept(&mut entry, accept) {
             return Err(Refusal::Memory);
         }
         if let Err(Memory) = self.journal.reserve(entry.as_slice()) {
@@ -198,6 +199,7 @@ impl<D: Disk> Acceptor for Store<D> {
     ghost leads_on = { Leads-append D.contents D.faults };
 
     fn submit(&mut self, parts: Vec<Sms>, time: u64) -> Result<Reply, Refusal> {
-        self.accept(&parts, time)
+        let parts = Items::from_vec(parts);
+        self.accept(&Accept { time, parts })
     }
 }

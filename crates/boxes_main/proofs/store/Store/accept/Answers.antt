@@ -8,7 +8,7 @@ use Rattle.boxes_main.proofs.store.Store.accept.Goals as goal
 
 pub returns-in-Ok-clause-ok : goal.returns-in-Ok-clause-ok
 returns-in-Ok-clause-ok g c = λ birth accepts is.
-    let more : Accept = record { time = c.args.time; parts = c.args.parts.now } in
+    let more : Accept = c.args.accept.now in
     let P : List (List ℕ) → Type 0 = λ p. IsJournal g.D.Disk.contents c.append_entry.new.self.journal birth p in
     record {
       journal = subst P (sym (map-append entry accepts (more ∷ []))) (c.in-Ok.ensures.ok birth (entries accepts) is.journal);
