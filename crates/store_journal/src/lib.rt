@@ -28,6 +28,3 @@ pub use fault::OpenFault;
 pub use host_disk::HostDisk;
 pub use journal::Journal;
 pub use mem_disk::MemDisk;
-
-#[cfg(test)]
-mod tests;

@@ -1,6 +1,6 @@
 use Rattle.std.proofs.Common.{length}
 use Rattle.store_journal.specs.Journal.{IsKept, left}
-use Rattle.store_journal.proofs.tests.skip.Given as goal
+use Rattle.base_tests.proofs.journal.hand_out.Given as goal
 
 abbrev pub invariant-payloads : goal.invariant-payloads
 invariant-payloads g l = IsKept g.D.Disk.tells g.D.Disk.contents l.journal
