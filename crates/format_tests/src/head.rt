@@ -8,32 +8,32 @@ use std::test::Fail;
 
 /// What is read of some octets: a word and a length.
 #[derive(Clone, Copy)]
-struct Read(&'static str, usize);
+struct Reading(&'static str, usize);
 
-fn same_read(rt: &impl Abort, got: Read, want: Read) {
+fn same_read(rt: &impl Abort, got: Reading, want: Reading) {
     assert_eq!(rt; (got.0, got.1), (want.0, want.1));
 }
 
-fn read(alloc: Global, octets: &[u8]) -> Result<Read, Memory> {
+fn read(alloc: Global, octets: &[u8]) -> Result<Reading, Memory> {
     Ok(match read_head(alloc, octets)? {
-        HeadRead::Whole { len, .. } => Read("whole", len),
-        HeadRead::NeedMore => Read("more", 0),
-        HeadRead::Bad => Read("bad", 0),
-        HeadRead::TooLong { seen } => Read("long", seen),
+        HeadRead::Whole { len, .. } => Reading("whole", len),
+        HeadRead::NeedMore => Reading("more", 0),
+        HeadRead::Bad => Reading("bad", 0),
+        HeadRead::TooLong { seen } => Reading("long", seen),
     })
 }
 
-const READS: &[(&str, Read)] = &[
+const READS: &[(&str, Reading)] = &[
     (
         "GET /cgi-bin/sendsms?username=tester&password=foobar&from=123&to=0123456&text=hello HTTP/1.0\r\n\r\n",
-        Read("whole", 96),
+        Reading("whole", 96),
     ),
-    ("", Read("more", 0)),
-    ("GET /cgi-bin/sendsms?username=", Read("more", 0)),
-    ("GET / HTTP/1.0\r\nA: b\r\n", Read("more", 0)),
-    ("GET / HTTP/1.0\r\nA: b\r\n\r\nmore", Read("whole", 24)),
-    ("GET / HTTP/9", Read("bad", 0)),
-    ("GET / HTTP/1.0\r\nno colon\r\n", Read("bad", 0)),
+    ("", Reading("more", 0)),
+    ("GET /cgi-bin/sendsms?username=", Reading("more", 0)),
+    ("GET / HTTP/1.0\r\nA: b\r\n", Reading("more", 0)),
+    ("GET / HTTP/1.0\r\nA: b\r\n\r\nmore", Reading("whole", 24)),
+    ("GET / HTTP/9", Reading("bad", 0)),
+    ("GET / HTTP/1.0\r\nno colon\r\n", Reading("bad", 0)),
 ];
 
 #[test]
@@ -47,9 +47,13 @@ fn heads_are_read_as_they_come(rt: HostRuntime) -> Result<(), Fail> {
 #[test]
 fn only_the_first_65536_octets_are_looked_at(rt: HostRuntime) -> Result<(), Fail> {
     let many = vec![in rt.alloc(); b'a'; 65_536]?;
-    same_read(&rt, read(rt.alloc(), many.as_slice())?, Read("long", 65_536));
+    same_read(
+        &rt,
+        read(rt.alloc(), many.as_slice())?,
+        Reading("long", 65_536),
+    );
     let fewer = vec![in rt.alloc(); b'a'; 65_535]?;
-    same_read(&rt, read(rt.alloc(), fewer.as_slice())?, Read("more", 0));
+    same_read(&rt, read(rt.alloc(), fewer.as_slice())?, Reading("more", 0));
     Ok(())
 }
 

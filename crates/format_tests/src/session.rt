@@ -1,9 +1,7 @@
 //! Answers and sessions as they look on the wire.
 
 use kn_base::{MemClock, MemPeer, MemTake, Memory, Octets, Past, Peer, Piece, Wrote, raised};
-use sendsms_http::{
-    Acceptor, Answer, HttpEnd, Refusal, Reply, Spot, serve_http, write_answer,
-};
+use sendsms_http::{Acceptor, Answer, HttpEnd, Refusal, Reply, Spot, serve_http, write_answer};
 use sms_record::Sms;
 use std::alloc::Global;
 use std::process::Abort;
@@ -131,21 +129,31 @@ fn make_store(outcome: Result<bool, Refusal>) -> Store {
     }
 }
 
-// What a peer says, the store's outcome, how often it is handed something, and what the peer hears.
-type Session = (&'static [u8], Result<bool, Refusal>, u64, &'static [u8]);
+// What a peer says, the store's outcome, how often it is handed something and at which time, and what the peer hears.
+type Session = (
+    &'static [u8],
+    Result<bool, Refusal>,
+    [u64; 2],
+    &'static [u8],
+);
 
 const SESSIONS: &[Session] = &[
-    (ROW, Ok(true), 1, QUEUED),
+    (ROW, Ok(true), [1, 1000], QUEUED),
     (
         ROW,
         Err(Refusal::Full { held: 9, limit: 9 }),
-        1,
+        [1, 1000],
         UNAVAILABLE,
     ),
-    (ROW, Err(Refusal::Disk), 1, UNAVAILABLE),
-    (b"GET /cgi-bin/sendsms?username=", Ok(true), 0, NOT_BUILT),
-    (b"GET / HTTP/9", Ok(true), 0, NOT_BUILT),
-    (b"", Ok(true), 0, b""),
+    (ROW, Err(Refusal::Disk), [1, 1000], UNAVAILABLE),
+    (
+        b"GET /cgi-bin/sendsms?username=",
+        Ok(true),
+        [0, 0],
+        NOT_BUILT,
+    ),
+    (b"GET / HTTP/9", Ok(true), [0, 0], NOT_BUILT),
+    (b"", Ok(true), [0, 0], b""),
 ];
 
 fn check_session(rt: &impl Abort, alloc: Global, session: Session) -> Result<(), Memory> {
@@ -159,7 +167,7 @@ fn check_session(rt: &impl Abort, alloc: Global, session: Session) -> Result<(),
     same_numbers(
         rt,
         &[u64::from(whole), store.handed, store.time],
-        &[1, handed, handed * 1000],
+        &[1, handed[0], handed[1]],
     );
     Ok(())
 }
