@@ -10,7 +10,7 @@ use Rattle.httparse.specs.declared.Status.TheVariants.{Complete, Partial}
 use Rattle.httparse.specs.declared.spans.HeaderSpan.{HeaderSpan}
 use Rattle.httparse.specs.declared.spans.RequestSpans.{RequestSpans}
 use Rattle.sendsms_http.specs.declared.head.Head.{Head}
-use Rattle.sendsms_http.specs.Head.{head_from, head_of, IsWhole, NeverHas, Stands, NamedValue}
+use Rattle.sendsms_http.specs.Head.{line_limit, head_from, head_of, IsWhole, NeverHas, Stands, NamedValue}
 
 -- a complete answer, as a match names it
 pub complete_from : {A : Type 0} (read : Status A) (a : A) (P : A → Type 0) → read ≡ Complete a → IfComplete {E = Error} (Ok read) P → P a
@@ -24,14 +24,14 @@ partial_from Partial P e h = h
 
 -- the spans of a head have room for its lines
 few_lines : (octets : List ℕ) (spans : List HeaderSpan) (r : RequestSpans) (h : RequestHead) → IsRequestAt octets spans r h
-    → length spans ≤ 64 → length h.fields ≤ 64
+    → length spans ≤ line_limit → length h.fields ≤ line_limit
 few_lines octets spans r h at room =
     let e : length (take r.headers spans) ≡ length h.fields = sym (length-map (take r.headers spans) (header_bytes octets)) ∙ ap length at.fields ∙ length-map h.fields name_and_value in
     omega (arith, length-take r.headers spans)
 
 -- a head that was found, and what is made of its spans
 pub whole_from : (octets : List ℕ) (spans : List HeaderSpan) (r : RequestSpans) (h : RequestHead) (head : Head)
-    → IsRequestAt octets spans r h → length spans ≤ 64
+    → IsRequestAt octets spans r h → length spans ≤ line_limit
     → head ≡ head_from (span_bytes octets r.method) r.version (span_bytes octets r.path) (map (header_bytes octets) (take r.headers spans))
     → IsWhole octets head r.len
 whole_from octets spans r h head at room e = (
@@ -47,8 +47,8 @@ whole_from octets spans r h head at room e = (
 )
 
 -- none can come
-pub never_from : (octets : List ℕ) → RequestOverflows 64 octets → NeverHas octets
+pub never_from : (octets : List ℕ) → RequestOverflows line_limit octets → NeverHas octets
 never_from octets over more h rest s =
-    let many : 64 < length h.fields = over more h rest s.reads in
-    let few : length h.fields ≤ 64 = s.few in
+    let many : line_limit < length h.fields = over more h rest s.reads in
+    let few : length h.fields ≤ line_limit = s.few in
     absurd (omega arith)

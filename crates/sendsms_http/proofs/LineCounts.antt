@@ -11,7 +11,7 @@ use Rattle.httparse.specs.Grammar.{is_token_byte, is_uri_byte, is_value_byte, Al
 use Rattle.httparse.specs.Pieces.{is_newline, Stops}
 use Rattle.httparse.proofs.PieceLemmas.{token_is_no_newline, Stops_token, Stops-FieldLine, print_field-append}
 use Rattle.httparse.proofs.GrammarLemmas.{print_request-append, cons-append}
-use Rattle.sendsms_http.specs.Head.{Stands, HasNone, NeverHas, MayHave, IsOpen}
+use Rattle.sendsms_http.specs.Head.{line_limit, Stands, HasNone, NeverHas, MayHave, IsOpen}
 use Rattle.sendsms_http.specs.HeadSteps.{behind_blank, begins_after, has_too_many_lines}
 
 -- ---- an octet that ends no line
@@ -97,17 +97,17 @@ start-append h rest more = regroup (print_blank h.blank) h.method h.target (prin
         → (a ++ (b ++ 32 ∷ (c ++ 32 ∷ (d ++ (e ++ (f ++ r)))))) ++ m ≡ a ++ (b ++ 32 ∷ (c ++ 32 ∷ (d ++ (e ++ (f ++ (r ++ m))))))
     regroup a b c d e f r m = simp (append_assoc, cons-append)
 
-begins-start : (h : RequestHead) (lines : ℕ) (rest : List ℕ) → IsRequestHead h → lines + length h.fields ≡ 64
+begins-start : (h : RequestHead) (lines : ℕ) (rest : List ℕ) → IsRequestHead h → lines + length h.fields ≡ line_limit
     → has_too_many_lines (start h rest) ≡ begins_after lines rest
 begins-start h lines rest is e =
     let fields = flat_map print_field h.fields ++ rest in
     let version = print_version h.minor ++ (print_end h.line_end ++ fields) in
     let target = h.target ++ 32 ∷ version in
-    ap (begins_after 65) (behind_blank-print h.blank (h.method ++ 32 ∷ target) (Stops_token h.method (32 ∷ target) is.method.0 is.method.1))
-    ∙ begins-plain 64 h.method (32 ∷ target) (plain_token h.method is.method.1)
-    ∙ begins-plain 64 h.target (32 ∷ version) (plain_uri h.target is.target.1)
-    ∙ begins-version 64 h.minor (print_end h.line_end ++ fields)
-    ∙ begins-end 64 h.line_end fields
+    ap (begins_after (line_limit + 1)) (behind_blank-print h.blank (h.method ++ 32 ∷ target) (Stops_token h.method (32 ∷ target) is.method.0 is.method.1))
+    ∙ begins-plain line_limit h.method (32 ∷ target) (plain_token h.method is.method.1)
+    ∙ begins-plain line_limit h.target (32 ∷ version) (plain_uri h.target is.target.1)
+    ∙ begins-version line_limit h.minor (print_end h.line_end ++ fields)
+    ∙ begins-end line_limit h.line_end fields
     ∙ ap (λ n. begins_after n fields) (sym e)
     ∙ begins-fields h.fields lines rest is.fields
 
@@ -132,10 +132,10 @@ begins-longer (suc lines) (b ∷ xs) ys h = either (eqb b 10) _ _ _ _ (begins-lo
 
 many-longer : (xs ys : List ℕ) → has_too_many_lines xs ≡ true → has_too_many_lines (xs ++ ys) ≡ true
 many-longer [] ys h = cc
-many-longer (b ∷ xs) ys h = either (is_newline b) _ _ _ _ (many-longer xs ys) (begins-longer 65 (b ∷ xs) ys) h
+many-longer (b ∷ xs) ys h = either (is_newline b) _ _ _ _ (many-longer xs ys) (begins-longer (line_limit + 1) (b ∷ xs) ys) h
   where
-    either : (t : Bool) (p q r s : List ℕ) → (begins_after 65 p ≡ true → begins_after 65 r ≡ true) → (begins_after 65 q ≡ true → begins_after 65 s ≡ true)
-        → begins_after 65 (cond t p q) ≡ true → begins_after 65 (cond t r s) ≡ true
+    either : (t : Bool) (p q r s : List ℕ) → (begins_after (line_limit + 1) p ≡ true → begins_after (line_limit + 1) r ≡ true) → (begins_after (line_limit + 1) q ≡ true → begins_after (line_limit + 1) s ≡ true)
+        → begins_after (line_limit + 1) (cond t p q) ≡ true → begins_after (line_limit + 1) (cond t r s) ≡ true
     either true p q r s f g h = f h
     either false p q r s f g h = g h
 
@@ -149,8 +149,8 @@ never_of_many octets many none more h rest s =
           let front = split_front (print_request h) rest octets more (sym s.reads.1) (omega (arith, longer)) in
           let y = drop (length octets) (print_request h) in
           let e : octets ++ y ≡ start h (print_end h.last) = sym front.0 ∙ sym (append-nil (print_request h)) ∙ print-start h [] ∙ ap (start h) (append-nil (print_end h.last)) in
-          let lines : 64 - length h.fields + length h.fields ≡ 64 = omega (arith, s.few) in
-          let count : has_too_many_lines (octets ++ y) ≡ false = ap has_too_many_lines e ∙ begins-start h (64 - length h.fields) (print_end h.last) s.reads.0 lines ∙ begins-last (64 - length h.fields) h.last in
+          let lines : line_limit - length h.fields + length h.fields ≡ line_limit = omega (arith, s.few) in
+          let count : has_too_many_lines (octets ++ y) ≡ false = ap has_too_many_lines e ∙ begins-start h (line_limit - length h.fields) (print_end h.last) s.reads.0 lines ∙ begins-last (line_limit - length h.fields) h.last in
           absurd (false≢true (sym count ∙ many-longer octets y many))
       | inr whole ↦
           let front = split_front octets more (print_request h) rest s.reads.1 whole in
@@ -165,7 +165,7 @@ never_of_many octets many none more h rest s =
 
 -- the head with its first 64 fields alone
 abbrev cut_head : RequestHead → RequestHead
-cut_head h = record h { fields = take 64 h.fields; last = lf }
+cut_head h = record h { fields = take line_limit h.fields; last = lf }
 
 is_cut_head : (h : RequestHead) → IsRequestHead h → IsRequestHead (cut_head h)
 is_cut_head h is = record {
@@ -173,20 +173,20 @@ is_cut_head h is = record {
   target = is.target;
   target_text = is.target_text;
   minor = is.minor;
-  fields = All-take IsField 64 h.fields is.fields;
+  fields = All-take IsField line_limit h.fields is.fields;
 }
 
 -- what follows the first 64 fields
 abbrev behind_cut : RequestHead → List ℕ
-behind_cut h = flat_map print_field (drop 64 h.fields) ++ print_end h.last
+behind_cut h = flat_map print_field (drop line_limit h.fields) ++ print_end h.last
 
 print-cut : (h : RequestHead) → print_request h ++ [] ≡ start (cut_head h) [] ++ behind_cut h
 print-cut h =
-    let fields : flat_map print_field h.fields ++ (print_end h.last ++ []) ≡ flat_map print_field (take 64 h.fields) ++ behind_cut h =
-    ap (λ fs. flat_map print_field fs ++ (print_end h.last ++ [])) (sym (take-append-drop 64 h.fields))
-    ∙ ap (λ text. text ++ (print_end h.last ++ [])) (flat_map-append print_field (take 64 h.fields) (drop 64 h.fields))
-    ∙ append_assoc (flat_map print_field (take 64 h.fields)) (flat_map print_field (drop 64 h.fields)) (print_end h.last ++ [])
-    ∙ ap (λ last. flat_map print_field (take 64 h.fields) ++ (flat_map print_field (drop 64 h.fields) ++ last)) (append-nil (print_end h.last)) in
+    let fields : flat_map print_field h.fields ++ (print_end h.last ++ []) ≡ flat_map print_field (take line_limit h.fields) ++ behind_cut h =
+    ap (λ fs. flat_map print_field fs ++ (print_end h.last ++ [])) (sym (take-append-drop line_limit h.fields))
+    ∙ ap (λ text. text ++ (print_end h.last ++ [])) (flat_map-append print_field (take line_limit h.fields) (drop line_limit h.fields))
+    ∙ append_assoc (flat_map print_field (take line_limit h.fields)) (flat_map print_field (drop line_limit h.fields)) (print_end h.last ++ [])
+    ∙ ap (λ last. flat_map print_field (take line_limit h.fields) ++ (flat_map print_field (drop line_limit h.fields) ++ last)) (append-nil (print_end h.last)) in
     print-start h []
     ∙ ap (λ text. print_blank h.blank ++ (h.method ++ 32 ∷ (h.target ++ 32 ∷ (print_version h.minor ++ (print_end h.line_end ++ text))))) fields
     ∙ sym (start-append (cut_head h) [] (behind_cut h))
@@ -202,7 +202,7 @@ begins_first [] more some stops = absurd (omega arith)
 begins_first (b ∷ q) more some stops = ap not stops
 
 -- a head of more fields goes on from 64 of them, or the octets are a front of those
-may_cut : (octets more : List ℕ) (h : RequestHead) → has_too_many_lines octets ≡ false → ReadsRequest (octets ++ more) h [] → 64 < length h.fields → MayHave octets
+may_cut : (octets more : List ℕ) (h : RequestHead) → has_too_many_lines octets ≡ false → ReadsRequest (octets ++ more) h [] → line_limit < length h.fields → MayHave octets
 may_cut octets more h few reads long =
     let k = cut_head h in
     let is = is_cut_head h reads.0 in
@@ -212,9 +212,9 @@ may_cut octets more h few reads long =
           let front = split_front octets more (start (cut_head h) []) (behind_cut h) e (omega (arith, longer)) in
           let q = drop (length (start (cut_head h) [])) octets in
           let some : 0 < length q = omega (arith, longer, length-drop (length (start (cut_head h) [])) octets) in
-          let others : 0 < length (drop 64 h.fields) = omega (arith, long, length-drop 64 h.fields) in
-          let stops : Stops is_newline (q ++ more) = subst (Stops is_newline) (sym front.1) (stops_fields (drop 64 h.fields) (print_end h.last) others (All-drop IsField 64 h.fields reads.0.fields)) in
-          let lines : 0 + length (take 64 h.fields) ≡ 64 = omega (arith, length-take 64 h.fields, long) in
+          let others : 0 < length (drop line_limit h.fields) = omega (arith, long, length-drop line_limit h.fields) in
+          let stops : Stops is_newline (q ++ more) = subst (Stops is_newline) (sym front.1) (stops_fields (drop line_limit h.fields) (print_end h.last) others (All-drop IsField line_limit h.fields reads.0.fields)) in
+          let lines : 0 + length (take line_limit h.fields) ≡ line_limit = omega (arith, length-take line_limit h.fields, long) in
           let count : has_too_many_lines octets ≡ true =
           ap has_too_many_lines (front.0 ∙ start-append (cut_head h) [] q) ∙ begins-start (cut_head h) 0 q is lines ∙ begins_first q more some stops in
           absurd (false≢true (sym few ∙ count))
@@ -229,14 +229,14 @@ may_cut octets more h few reads long =
                 is,
                 sym (append_assoc octets m (10 ∷ [])) ∙ ap (λ text. text ++ (10 ∷ [])) (sym front.0) ∙ start-append (cut_head h) [] (10 ∷ []) ∙ sym (print-start (cut_head h) []),
               );
-              few = omega (arith, length-take 64 h.fields);
+              few = omega (arith, length-take line_limit h.fields);
             },
           )
     ]
 
 may_have : (octets more : List ℕ) (h : RequestHead) → has_too_many_lines octets ≡ false → ReadsRequest (octets ++ more) h [] → MayHave octets
 may_have octets more h few reads =
-    elim (cases_lt 64 (length h.fields)) [
+    elim (cases_lt line_limit (length h.fields)) [
       | inl long ↦ may_cut octets more h few reads long
       | inr fits ↦ (more, h, [], record { reads = reads; few = fits })
     ]

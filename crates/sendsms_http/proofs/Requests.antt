@@ -74,7 +74,7 @@ looks heard (read_is.TooLong seen) within long = inr long.1
 -- what came of listening, by what is made of what was heard
 pub listens_so : (heard : List ℕ) (listened : Listened) (a b : Course) → LooksAt (Some listened) heard → heard ≢ [] → Listens heard false a b
     → ListensSo listened a b
-listens_so heard (Request head) a b at some l = (heard, some, l, at)
+listens_so heard (Request head) a b at some l = (heard, l, at)
 listens_so heard NoRequest a b at some l = (heard, false, some, l, at)
 listens_so heard Lost a b at some l = (heard, some, l)
 listens_so heard Nothing a b at some l = absurd at

@@ -215,25 +215,16 @@ stopped_silence Fault heard other more = (more, refl)
 stopped_silence Quiet heard other more = (more, refl)
 stopped_silence Memory heard other more = (more, refl)
 
--- what a request came to is an answer to what was heard
-request_answers : {S : Type 0} (leads : S → List Deed → S → Type 0) (faults : S → ℕ) (store later : S) (told tells : Option (List ℕ))
-    (head : Head) (answer : Answer) (heard : List ℕ) → heard ≢ [] → IsHeadHeard heard head
-    → (r : RequestComesTo leads faults store later told tells head answer) → Answers heard false (r.now ∷ []) r.deeds answer
-request_answers leads faults store later told tells head answer heard some stands r = elim r.comes_to [
-  | inl came ↦ inr (inl (record { head = head; stands = stands; at_once = refl; now = r.now; reading = refl; comes_to = came }))
-  | inr want ↦ inr (inr (record { some = some; at_once = refl; answered = want.0; few_readings = omega arith; no_deed = want.1 }))
-]
-
 -- a request was heard and answered
 pub serves_request : {S : Type 0} (leads : S → List Deed → S → Type 0) (faults : S → ℕ) (store later : S) (a b c : Course)
-    (told tells : Option (List ℕ)) (end : HttpEnd) (heard : List ℕ) (head : Head) (answer : Answer) → heard ≢ [] → Listens heard false a b
+    (told tells : Option (List ℕ)) (end : HttpEnd) (heard : List ℕ) (head : Head) (answer : Answer) → Listens heard false a b
     → IsHeadHeard heard head → RequestComesTo leads faults store later told tells head answer → Says end (reply_text answer true) b c
     → Serves leads faults store later a c told tells end
-serves_request leads faults store later a b c told tells end heard head answer some l stands r says = record {
+serves_request leads faults store later a b c told tells end heard head answer l stands r says = record {
   readings = r.now ∷ [];
   deeds = r.deeds;
   peer = talks_answered heard false a b c (r.now ∷ []) r.deeds answer end l
-      (request_answers leads faults store later told tells head answer heard some stands r) says;
+      (inr (inl (record { head = head; stands = stands; at_once = refl; now = r.now; reading = refl; comes_to = r.comes_to }))) says;
   clock = r.clock;
   led = r.led;
   counts = r.counts;
@@ -263,7 +254,7 @@ module _ {S : Type 0} (leads : S → List Deed → S → Type 0) (faults : S →
       → Says end (reply_text OutOfMemory true) b c → Serves leads faults store store a c told told end
   serves_lost a b c end heard some l says =
       serves_alone a c end (talks_answered heard false a b c [] [] OutOfMemory end l
-      (inr (inr (record { some = some; at_once = refl; answered = refl; few_readings = omega arith; no_deed = refl }))) says)
+      (inr (inr (record { some = some; at_once = refl; no_reading = refl; out_of_memory = (refl, refl) }))) says)
 
   -- there was no input at all
   pub serves_nothing : (a c : Course) → Listens [] true a c → Serves leads faults store store a c told told End

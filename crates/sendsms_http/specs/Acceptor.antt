@@ -13,7 +13,7 @@ pub record Deed : Type 0 where
   pub time : ℕ
   pub outcome : Result Reply Refusal
 
--- the most octets of an entry that a box frame can carry
+-- the most octets that an entry has which a box frame can carry
 abbrev pub entry_limit : ℕ
 entry_limit = 16777212
 

@@ -20,7 +20,7 @@ line_limit = 64
 abbrev pub looked_at : List ℕ → List ℕ
 looked_at octets = take head_limit octets
 
--- A head of at most 64 header lines stands at the front, and the rest behind it.
+-- A head of no more header lines stands at the front, and the rest behind it.
 pub record Stands (octets : List ℕ) (h : RequestHead) (rest : List ℕ) : Type 0 where
   pub reads : ReadsRequest octets h rest
   pub few : length h.fields ≤ line_limit

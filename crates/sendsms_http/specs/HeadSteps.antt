@@ -1,7 +1,8 @@
 -- How the lines of a head that isn't whole yet are counted. No public clause cites this.
-use Rattle.std.specs.Prelude.{ℕ, suc, zero, Bool, false, not, List, [], ◌∷◌, ◌==◌, if◌then◌else◌}
+use Rattle.std.specs.Prelude.{ℕ, ◌+◌, suc, zero, Bool, false, not, List, [], ◌∷◌, ◌==◌, if◌then◌else◌}
 use Rattle.httparse.specs.Ascii.{line_feed}
 use Rattle.httparse.specs.Pieces.{is_newline}
+use Rattle.sendsms_http.specs.Head.{line_limit}
 
 -- the octets behind the empty lines at the front
 abbrev pub behind_blank : List ℕ → List ℕ
@@ -14,6 +15,6 @@ begins_after lines [] = false
 begins_after zero (b ∷ octets) = not (is_newline b)
 begins_after (suc lines) (b ∷ octets) = if b == line_feed then begins_after lines octets else begins_after (suc lines) octets
 
--- a 65th header line has begun, behind the request's line and 64 others
+-- one header line more than a head may have has begun, behind the request's line and the others
 abbrev pub has_too_many_lines : List ℕ → Bool
-has_too_many_lines octets = begins_after 65 (behind_blank octets)
+has_too_many_lines octets = begins_after (line_limit + 1) (behind_blank octets)

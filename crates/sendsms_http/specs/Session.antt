@@ -50,6 +50,10 @@ ComesTo (Ok parts) now deeds answer =
     (outcome : Result Reply Refusal) × IfOk outcome IsAccepted
     × (deeds ≡ record { parts = parts; time = now; outcome = outcome } ∷ []) × (answer ≡ answer_of outcome)
 
+-- want of memory, which may stand in the place of any answer: nothing was handed in
+abbrev pub IsOutOfMemory : List Deed → Answer → Type 0
+IsOutOfMemory deeds answer = (deeds ≡ []) × (answer ≡ OutOfMemory)
+
 -- A refusal of octets that are no request: nothing is handed in, and the clock isn't read.
 pub record RefusesForm (heard : List ℕ) (ended : Bool) (readings : List ℕ) (deeds : List Deed) (answer : Answer) : Type 0 where
   pub some : heard ≢ []
@@ -58,22 +62,21 @@ pub record RefusesForm (heard : List ℕ) (ended : Bool) (readings : List ℕ) (
   pub no_reading : readings ≡ []
   pub no_deed : deeds ≡ []
 
--- The answer to a request: the clock is read once, and what the head asks at that reading decides.
+-- The answer to a request: the clock is read once, and what the head asks at that reading decides, but for want of memory.
 pub record AnswersRequest (heard : List ℕ) (ended : Bool) (readings : List ℕ) (deeds : List Deed) (answer : Answer) : Type 0 where
   pub head : Head
   pub stands : IsHeadHeard heard head
   pub at_once : ended ≡ false
   pub now : ℕ
   pub reading : readings ≡ now ∷ []
-  pub comes_to : ComesTo (asked head now) now deeds answer
+  pub comes_to : ComesTo (asked head now) now deeds answer ⊎ IsOutOfMemory deeds answer
 
--- Want of memory, which may stand in the place of any answer: nothing is handed in.
+-- There was no memory for what was heard: the clock isn't read.
 pub record WantsMemory (heard : List ℕ) (ended : Bool) (readings : List ℕ) (deeds : List Deed) (answer : Answer) : Type 0 where
   pub some : heard ≢ []
   pub at_once : ended ≡ false
-  pub answered : answer ≡ OutOfMemory
-  pub few_readings : length readings ≤ 1
-  pub no_deed : deeds ≡ []
+  pub no_reading : readings ≡ []
+  pub out_of_memory : IsOutOfMemory deeds answer
 
 -- the answer to what was heard, with the readings and the deeds that it took
 abbrev pub Answers : List ℕ → Bool → List ℕ → List Deed → Answer → Type 0

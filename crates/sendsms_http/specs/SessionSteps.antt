@@ -8,7 +8,6 @@ use Rattle.kn_base.specs.Course.{Course, with_more}
 use Rattle.kn_base.specs.Talk.{said_of, heard_of}
 use Rattle.sms_record.specs.declared.sms.Sms.{Sms}
 use Rattle.sendsms_http.specs.declared.answer.Answer.{Answer}
-use Rattle.sendsms_http.specs.declared.answer.Answer.TheVariants.{OutOfMemory}
 use Rattle.sendsms_http.specs.declared.head.Head.{Head}
 use Rattle.sendsms_http.specs.declared.head.read.HeadRead.{HeadRead}
 use Rattle.sendsms_http.specs.declared.head.read.HeadRead.TheVariants as read_is
@@ -22,7 +21,7 @@ use Rattle.sendsms_http.specs.Acceptor.{Deed, CountsFaults}
 use Rattle.sendsms_http.specs.Head.{NeedsMore}
 use Rattle.sendsms_http.specs.Reply.{IsAccepted, answer_of}
 use Rattle.sendsms_http.specs.Request.{asked}
-use Rattle.sendsms_http.specs.Session.{IsHeard, IsHeadHeard, IsNoRequest, ComesTo, SaysSo, AddsAll, NoneFell, IsCaused}
+use Rattle.sendsms_http.specs.Session.{IsHeard, IsHeadHeard, IsNoRequest, ComesTo, IsOutOfMemory, SaysSo, AddsAll, NoneFell, IsCaused}
 
 -- what a failed call means for the end, by the counts of want of memory before and after it
 abbrev pub IsFailure : HttpEnd → ℕ → ℕ → Type 0
@@ -52,7 +51,7 @@ pub record Listens (heard : List ℕ) (ended : Bool) (old new : Course) : Type 0
 
 -- what came of listening
 abbrev pub ListensSo : Listened → Course → Course → Type 0
-ListensSo (Request head) old new = (heard : List ℕ) × (heard ≢ []) × Listens heard false old new × IsHeadHeard heard head
+ListensSo (Request head) old new = (heard : List ℕ) × Listens heard false old new × IsHeadHeard heard head
 ListensSo NoRequest old new = (heard : List ℕ) × (ended : Bool) × (heard ≢ []) × Listens heard ended old new × IsNoRequest heard ended
 ListensSo Lost old new = (heard : List ℕ) × (heard ≢ []) × Listens heard false old new
 ListensSo Nothing old new = Listens [] true old new
@@ -99,7 +98,7 @@ pub record RequestComesTo
   pub clock : AddsAll (now ∷ []) told tells
   pub led : leads store deeds later
   pub counts : CountsFaults (faults store) (faults later) deeds
-  pub comes_to : ComesTo (asked head now) now deeds answer ⊎ ((answer ≡ OutOfMemory) × (deeds ≡ []))
+  pub comes_to : ComesTo (asked head now) now deeds answer ⊎ IsOutOfMemory deeds answer
 
 -- What came of saying a text, by the end of the session. Nothing is heard meanwhile.
 pub record Says (end : HttpEnd) (text : List ℕ) (old new : Course) : Type 0 where

@@ -11,7 +11,7 @@ pub use spot::Spot;
 pub use write::write_answer;
 
 /// An answer over HTTP.
-#[derive(Clone, Copy, Debug, PartialEq, Eq)]
+#[derive(Clone, Copy)]
 pub enum Answer {
     /// 202: the message is stored, and a link that can take it is up.
     Accepted,

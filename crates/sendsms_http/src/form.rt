@@ -207,7 +207,7 @@ fn first(pairs: &[Pair], variable: Variable) -> Option<&Pair>
     pairs.iter().find(|pair| pair.name.as_slice() == name)
 }
 
-// Whether the octets are 1 to 15 decimal digits.
+// Whether the octets are decimal digits, one at least.
 fn is_number(octets: &[u8]) -> bool
     ensures { result ≡ spec.is_number octets.now }
 {
@@ -220,7 +220,7 @@ fn are_digits(octets: &[u8]) -> bool
     octets.iter().all(|octet| octet.is_ascii_digit())
 }
 
-// Whether the octets are at most 160 letters, digits and spaces.
+// Whether the octets are letters, digits and spaces, not too many.
 fn is_text(octets: &[u8]) -> bool
     ensures { result ≡ spec.is_text octets.now }
 {

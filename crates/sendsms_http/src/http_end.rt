@@ -3,7 +3,7 @@
 ghost use Rattle.sendsms_http.specs.SessionSteps.{IsFailure};
 
 /// How a session over HTTP ended.
-#[derive(Clone, Copy, Debug, PartialEq, Eq)]
+#[derive(Clone, Copy)]
 pub enum HttpEnd {
     /// The answer was said whole, or there was no input at all. No count of the peer rose.
     End,

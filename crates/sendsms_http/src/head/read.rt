@@ -21,17 +21,17 @@ pub const LINE_LIMIT: usize = 64;
 /// What octets say of the head at their front.
 #[derive(Drop)]
 pub enum HeadRead {
-    /// A head of `len` octets stands there, of at most 64 header lines.
+    /// A head of `len` octets stands there, of at most `LINE_LIMIT` header lines.
     Whole { head: Head, len: usize },
     /// None stands there yet, and one may come.
     NeedMore,
-    /// None can come of them.
+    /// None can come of them, whatever follows.
     Bad,
-    /// The first `seen` octets, 65,536, hold none, and no more are looked at.
+    /// The first `seen` octets, `HEAD_LIMIT` of them, hold none, and no more are looked at.
     TooLong { seen: usize },
 }
 
-/// Reads the head of a request (RFC 9112 2 to 6) at the front of the first 65,536 octets.
+/// Reads the head of a request (RFC 9112 2 to 6) at the front of octets, of which the first `HEAD_LIMIT` are looked at.
 ///
 /// Octets that end within a target may need more although no head can come of them. `Memory`: there was none for the target.
 pub fn read_head(alloc: Global, octets: &[u8]) -> Result<HeadRead, Memory>

@@ -9,7 +9,7 @@ returns-in-Request g c =
     serves_request g.A.Acceptor.leads g.A.Acceptor.faults c.args.acceptor.now c.answer_request-answer.new.acceptor
     (course c.args.peer.now) (course c.listen.new.source) (course c.say.new.sink)
     (readings c.args.clock.now) (readings c.answer_request-answer.new.clock)
-    c.say.result heard.0 c.in-Request.head c.answer_request-answer.result heard.1 heard.2 heard.3 c.answer_request-answer.ensures c.say.ensures
+    c.say.result heard.0 c.in-Request.head c.answer_request-answer.result heard.1 heard.2 c.answer_request-answer.ensures c.say.ensures
 
 pub returns-in-NoRequest : goal.returns-in-NoRequest
 returns-in-NoRequest g c =

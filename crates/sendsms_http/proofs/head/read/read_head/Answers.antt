@@ -12,7 +12,7 @@ returns-in_ok-head-in-Ok-Complete c =
     let octets = c.front-looked_at.result.now in
     let spans = c.parse_request.new.headers in
     let complete = complete_from c.in-Ok-Complete.field-0 c.in-Ok-Complete.request (IsRequestOf octets spans) c.in-Ok-Complete.field-0-is c.in-Ok-Complete.ensures.complete in
-    let room : length spans ≤ 64 = omega arith in
+    let room : length spans ≤ spec.line_limit = omega arith in
     subst (λ octets. spec.IsWhole octets c.in_ok-head-in-Ok-Complete.head c.in-Ok-Complete.request.len) c.front-looked_at.ensures
     (whole_from octets spans c.in-Ok-Complete.request complete.0 c.in_ok-head-in-Ok-Complete.head complete.1 room c.in_ok-head-in-Ok-Complete.ensures)
 
