@@ -1,0 +1,6 @@
+//! The formats as others write them: tables of octets, and what is read of them and written.
+//! It has no code but tests of the crates below.
+#![tactic(auto)]
+
+#[cfg(test)]
+mod record;
