@@ -299,39 +299,20 @@ repeated_reads reads n = repeated_is_reader _ _ _ reads n
 
 -- ---- the same values in other words
 
-module _ {A : Type 0} (GA : A → Type 0) (sA : A → List ℕ) (rA : Reader A) (GC : A → Type 0) (sC : A → List ℕ)
-    (reads : IsReader GA sA rA) (there : (a : A) → GA a → GC a) (back : (a : A) → GC a → GA a) (spells : (a : A) → GA a → sA a ≡ sC a) where
-  renamed_begun : (front : List ℕ) → Begun GA sA front → Begun GC sC front
-  renamed_begun front b = record { value = b.value; more = b.more; good = there b.value b.good; whole = b.whole ∙ spells b.value b.good }
-
-  begun_renamed : (front : List ℕ) → Begun GC sC front → Begun GA sA front
-  begun_renamed front b = record { value = b.value; more = b.more; good = back b.value b.good; whole = b.whole ∙ sym (spells b.value (back b.value b.good)) }
-
-  renamed_answers : (octets : List ℕ) (r : Result (A × List ℕ) ReadFault) → Answers GA sA octets r → Answers GC sC octets r
-  renamed_answers octets (Ok x) h = (there x.0 h.0, h.1 ∙ ap (λ (y : List ℕ). y ++ x.1) (spells x.0 h.0))
-  renamed_answers octets (Err faults.Short) h = record { value = h.value; more = h.more; good = there h.value h.good; whole = h.whole ∙ spells h.value h.good; some = h.some }
-  renamed_answers octets (Err (faults.Malformed left)) h = record {
-    front = h.front;
-    octet = h.octet;
-    rest = h.rest;
-    parts = h.parts;
-    at = h.at;
-    begins = renamed_begun h.front h.begins;
-    ends = λ b. h.ends (begun_renamed (h.front ++ h.octet ∷ []) b);
-  }
-  renamed_answers octets (Err faults.Memory) h = absurd h
-
-  renamed_is_reader : IsReader GC sC rA
-  renamed_is_reader = record {
-    one = (reads.one.0, there reads.one.0 reads.one.1);
-    again = λ a rest good. ap (λ (y : List ℕ). rA (y ++ rest)) (sym (spells a (back a good))) ∙ reads.again a rest (back a good);
-    answers = λ octets fits. renamed_answers octets (rA octets) (reads.answers octets fits);
-  }
+made_same : {A : Type 0} (r : Result (A × List ℕ) ReadFault) → (r >>= λ x. Ok (x.0, x.1)) ≡ r
+made_same (Ok x) = refl
+made_same (Err fault) = refl
 
 -- the same values, seen and spelled in other words
 pub renamed_reads : {A : Type 0} {GA : A → Type 0} {sA : A → List ℕ} {rA : Reader A} {GC : A → Type 0} {sC : A → List ℕ}
     → IsReader GA sA rA → ((a : A) → GA a → GC a) → ((a : A) → GC a → GA a) → ((a : A) → GA a → sA a ≡ sC a) → IsReader GC sC rA
-renamed_reads reads there back spells = renamed_is_reader _ _ _ _ _ reads there back spells
+renamed_reads {rA = rA} {GC = GC} {sC = sC} reads there back spells =
+    let same = made_reads {GC = GC} {sC = sC} (λ a. a) reads (record { there = λ a good. (there a good, sym (spells a good)); back = λ a good. (a, back a good, refl, spells a (back a good)) }) in
+    record {
+      one = same.one;
+      again = λ a rest good. sym (made_same (rA (sC a ++ rest))) ∙ same.again a rest good;
+      answers = λ octets fits. subst (Answers GC sC octets) (made_same (rA octets)) (same.answers octets fits);
+    }
 
 -- values that are good for the same reason
 pub reworded_reads : {A : Type 0} {GA GC : A → Type 0} {sA : A → List ℕ} {rA : Reader A}

@@ -7,6 +7,8 @@ mod alphabet;
 #[cfg(test)]
 mod head;
 #[cfg(test)]
+mod record;
+#[cfg(test)]
 mod request;
 #[cfg(test)]
 mod session;
