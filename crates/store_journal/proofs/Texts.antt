@@ -1,13 +1,14 @@
 -- The text of an area is read as its payloads, and an append to it is the text of one more.
-use Rattle.std.proofs.Common.{◌≡◌, ℕ, ◌+◌, ◌<◌, ◌≤◌, ◌^◌, Bool, true, false, not, cond, eqb, get_or, List, [], ◌∷◌, ◌++◌, length, take, drop, refl, sym, ◌∙◌, ap, subst, arith, length-append, length-drop, append_assoc, Option, Some, None}
-use Rattle.std.specs.Prelude.{All, IfSome}
+use Rattle.std.proofs.Common.{◌≡◌, ℕ, ◌+◌, ◌<◌, ◌≤◌, ◌^◌, Bool, true, false, not, cond, eqb, get_or, List, [], ◌∷◌, ◌++◌, length, take, drop, refl, sym, ◌∙◌, ap, subst, arith, length-append, length-drop, append_assoc, Some, None}
+use Rattle.std.specs.Prelude.{All}
+use Rattle.std.specs.Bool.{OnTrue}
 use Rattle.std.specs.Int.{w64, to_be_bytes, from_be_bytes}
 use Rattle.std.proofs.lemmas.Bool.{and_left, ne_eqb}
 use Rattle.std.proofs.lemmas.List.{take_at, drop_at, drop-drop, drop_more, append-nil, length-take-le, take-append-drop}
 use Rattle.std.proofs.lemmas.List.Elements.{All-append}
 use Rattle.std.proofs.lemmas.Nat.{from_be_bytes-to_be_bytes_8, be_bytes_8}
 use Rattle.std.proofs.Math.Seq.{take-add}
-use Rattle.store_journal.specs.Disk.{Areas, octets_of, with_octets, written, write_area}
+use Rattle.store_journal.specs.Disk.{Areas, octets_of, with_octets, written, after_write}
 use Rattle.store_journal.specs.Area.{unborn, born, foreign, magic, header, header_front, unit, units, area_text, gate_place, units_end, reading, stands, standing, picked, begins_unit, begins_closed, payloads_in, IsPayload, IsText, IsStored}
 use Rattle.store_journal.specs.declared.area.Area.{Area}
 use Rattle.store_journal.specs.declared.area.Area.TheVariants.{A, B, Pick}
@@ -82,7 +83,7 @@ text_more octets birth payloads payload size is =
     }
 
 -- what an area holds after a write to it
-pub octets_of-with : (areas : Areas) (area : Area) (octets : List ℕ) → octets_of (with_octets areas area octets) area ≡ octets
+octets_of-with : (areas : Areas) (area : Area) (octets : List ℕ) → octets_of (with_octets areas area octets) area ≡ octets
 octets_of-with areas A octets = refl
 octets_of-with areas B octets = refl
 octets_of-with areas Pick octets = refl
@@ -98,7 +99,7 @@ picks_same areas Pick [] octets is same = absurd (cc)
 picks_same areas Pick (first ∷ rest) octets is same = absurd (never_pick (eqb first 2) is)
 
 -- areas after an append to the picked one
-pub stored_more : (areas : Areas) (area : Area) (birth : ℕ) (payloads : List (List ℕ)) (payload : List ℕ) → IsPayload payload → IsStored areas area birth payloads → IsStored (write_area area (gate_place payloads) (unit payload ++ 0 ∷ []) areas) area birth (payloads ++ payload ∷ [])
+pub stored_more : (areas : Areas) (area : Area) (birth : ℕ) (payloads : List (List ℕ)) (payload : List ℕ) → IsPayload payload → IsStored areas area birth payloads → IsStored (after_write area (gate_place payloads) (unit payload ++ 0 ∷ []) areas) area birth (payloads ++ payload ∷ [])
 stored_more areas area birth payloads payload size is = record {
   picks = picks_same areas area areas.pick (written (octets_of areas area) (gate_place payloads) (unit payload ++ 0 ∷ [])) is.picks refl;
   text = subst (λ l. IsText l birth (payloads ++ payload ∷ [])) (sym (octets_of-with areas area (written (octets_of areas area) (gate_place payloads) (unit payload ++ 0 ∷ [])))) (text_more (octets_of areas area) birth payloads payload size is.text);
@@ -136,39 +137,39 @@ text_read octets birth end are small front told place inside shut =
     }
 
 -- an area that holds a text stands for it
-pub stored_read : (told : Option Areas) (area : Area) (octets : List ℕ) (birth : ℕ) (payloads : List (List ℕ)) → IsText octets birth payloads → IfSome told (λ areas. picked areas.pick ≡ Some area) → IfSome told (λ areas. octets ≡ octets_of areas area)
-    → IfSome told (λ areas. IsStored areas area birth payloads)
-stored_read None area octets birth payloads text picks read = tt
-stored_read (Some areas) area octets birth payloads text picks read = record { picks = picks; text = subst (λ l. IsText l birth payloads) read text }
+pub stored_read : (tells : Bool) (areas : Areas) (area : Area) (octets : List ℕ) (birth : ℕ) (payloads : List (List ℕ)) → IsText octets birth payloads → OnTrue tells (picked areas.pick ≡ Some area) → OnTrue tells (octets ≡ octets_of areas area)
+    → OnTrue tells (IsStored areas area birth payloads)
+stored_read true areas area octets birth payloads text picks read = record { picks = picks; text = subst (λ l. IsText l birth payloads) read text }
+stored_read false areas area octets birth payloads text picks read = tt
 
 -- what an opening finds in such an area
-pub opens_read : (told : Option Areas) (area : Area) (new birth : ℕ) (payloads : List (List ℕ)) → IfSome told (λ areas. IsStored areas area birth payloads) → IfSome told (λ areas. OpensAs (stands areas) new birth area payloads)
-opens_read None area new birth payloads stored = tt
-opens_read (Some areas) area new birth payloads stored = subst (λ s. OpensAs s new birth area payloads) (sym (stands_stored areas area birth payloads stored)) (refl, refl, refl)
+pub opens_read : (tells : Bool) (areas : Areas) (area : Area) (new birth : ℕ) (payloads : List (List ℕ)) → OnTrue tells (IsStored areas area birth payloads) → OnTrue tells (OpensAs (stands areas) new birth area payloads)
+opens_read true areas area new birth payloads stored = subst (λ s. OpensAs s new birth area payloads) (sym (stands_stored areas area birth payloads stored)) (refl, refl, refl)
+opens_read false areas area new birth payloads stored = tt
 
 -- an area that is foreign to its readers is foreign
-pub foreign_read : (told : Option Areas) (area : Area) (octets : List ℕ) (at : ℕ) → ((area : Area) → reading area octets ≡ foreign area at) → IfSome told (λ areas. picked areas.pick ≡ Some area) → IfSome told (λ areas. octets ≡ octets_of areas area)
-    → IfSome told (λ areas. stands areas ≡ foreign area at)
-foreign_read None area octets at is picks read = tt
-foreign_read (Some areas) area octets at is picks read = ap (standing areas) picks ∙ ap (reading area) (sym read) ∙ is area
+pub foreign_read : (tells : Bool) (areas : Areas) (area : Area) (octets : List ℕ) (at : ℕ) → ((area : Area) → reading area octets ≡ foreign area at) → OnTrue tells (picked areas.pick ≡ Some area) → OnTrue tells (octets ≡ octets_of areas area)
+    → OnTrue tells (stands areas ≡ foreign area at)
+foreign_read true areas area octets at is picks read = ap (standing areas) picks ∙ ap (reading area) (sym read) ∙ is area
+foreign_read false areas area octets at is picks read = tt
 
 picks_none : (pick : List ℕ) → picked pick ≡ None → pick ≡ []
 picks_none [] is = refl
 picks_none (first ∷ rest) is = cc
 
--- what is told after a birth
-pub stored_birth : (told now : Option Areas) (birth : ℕ) → birth < 2 ^ 64 → IfSome told (λ areas. picked areas.pick ≡ None) → now ≡ after_birth birth told → IfSome now (λ areas. IsStored areas A birth [])
-stored_birth None now birth small unpicked written = subst (λ (t : Option Areas). IfSome t (λ areas. IsStored areas A birth [])) (sym written) tt
-stored_birth (Some areas) now birth small unpicked written =
-    subst (λ (t : Option Areas). IfSome t (λ areas. IsStored areas A birth [])) (sym written) (record {
+-- the areas after a birth hold no payloads
+pub stored_birth : (tells : Bool) (areas now : Areas) (birth : ℕ) → birth < 2 ^ 64 → OnTrue tells (picked areas.pick ≡ None) → OnTrue tells (now ≡ after_birth birth areas) → OnTrue tells (IsStored now A birth [])
+stored_birth true areas now birth small unpicked written =
+    subst (λ (a : Areas). IsStored a A birth []) (sym written) (record {
       picks = ap (λ p. picked ((1 ∷ []) ++ drop 1 p)) (picks_none areas.pick unpicked);
       text = record { gate = 0; behind = drop 17 areas.a; closed = refl; small = small; sizes = λ k d below. absurd (omega arith); text = refl };
     })
+stored_birth false areas now birth small unpicked written = tt
 
 -- an opening finds no payloads in a store that is not born
-pub opens_unborn : (told : Option Areas) (birth : ℕ) → IfSome told (λ areas. stands areas ≡ unborn) → IfSome told (λ areas. OpensAs (stands areas) birth birth A [])
-opens_unborn None birth is = tt
-opens_unborn (Some areas) birth is = subst (λ s. OpensAs s birth birth A []) (sym is) (refl, refl, refl)
+pub opens_unborn : (tells : Bool) (areas : Areas) (birth : ℕ) → OnTrue tells (stands areas ≡ unborn) → OnTrue tells (OpensAs (stands areas) birth birth A [])
+opens_unborn true areas birth is = subst (λ s. OpensAs s birth birth A []) (sym is) (refl, refl, refl)
+opens_unborn false areas birth is = tt
 
 -- no payloads are payloads
 pub stored_none : (payloads : List (List ℕ)) → payloads ≡ [] → All IsPayload payloads

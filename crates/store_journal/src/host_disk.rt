@@ -1,7 +1,8 @@
 //! A disk of real files. It tells no contents: what a file holds is no matter of a proof.
 
-ghost use Rattle.std.specs.Prelude.{◌≡◌, IfOk, None};
+ghost use Rattle.std.specs.Prelude.{◌≡◌, IfOk};
 
+use crate::disk::LAST_END;
 use crate::{Area, Disk, DiskFailed};
 use kn_base::{Memory, Octets, raised};
 use std::alloc::Global;
@@ -12,9 +13,6 @@ use std::path::Path;
 
 /// The mode of a file that is made: its owner may read and write it, since messages are nobody else's.
 const PRIVATE: u32 = 0o600;
-
-/// The last place at which a write may end, in octets.
-const LAST_END: u64 = 1 << 62;
 
 // The file of one area: its name, the file once it is open, and whether the folder was synced since then.
 #[derive(Drop)]
@@ -140,7 +138,14 @@ fn sync<R: Files<File = File>>(rt: &R, area: &mut HostFile) -> io::Result<()> {
 }
 
 impl<R: Files<File = File>> Disk for HostDisk<R> {
-    ghost contents = { λ disk. None };
+    ghost use Rattle.store_journal.specs.Disk.{no_areas, all_synced};
+    ghost use Rattle.std.specs.Prelude.{false};
+
+    ghost tells = { false };
+
+    ghost contents = { λ _. no_areas };
+
+    ghost synced = { λ _. all_synced };
 
     ghost faults = { λ disk. disk.faults };
 

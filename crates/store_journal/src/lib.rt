@@ -6,12 +6,13 @@
 //! Its one contract: what an opening hands out is exactly what was appended with `Ok`, in order.
 #![tactic(auto)]
 
-mod again;
 mod area;
+mod commit;
 mod disk;
 mod fault;
 mod host_disk;
 mod journal;
+mod mem_area;
 mod mem_disk;
 mod open;
 mod unit;

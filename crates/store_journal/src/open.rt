@@ -1,14 +1,16 @@
 //! The opening of a store: which area is picked, what it holds, and the birth of a store that isn't born.
 
-ghost use Rattle.std.specs.Prelude.{◌≡◌, ◌<◌, ◌≤◌, ◌+◌, ℕ, [], length, take, drop, is_some, IfOk, IfErr, IfSome, OnOk, OnErr, None, Some};
+ghost use Rattle.std.specs.Prelude.{◌≡◌, ◌<◌, ◌≤◌, ◌+◌, ℕ, [], length, take, drop, IfOk, IfErr, OnOk, None, Some};
+ghost use Rattle.std.specs.Bool.{OnTrue};
 ghost use Rattle.store_journal.specs.Area.{picked, stands, unborn, foreign, reading, header_front, payloads_in, units, units_end, area_text, IsText, IsStored};
 ghost use Rattle.std.specs.Int.{w64, from_be_bytes};
-ghost use Rattle.store_journal.specs.Disk.{octets_of, after_write};
+ghost use Rattle.store_journal.specs.Disk.{Spends, all_synced, octets_of};
 ghost use Rattle.store_journal.specs.declared.area.Area.{Area};
-ghost use Rattle.store_journal.specs.Journal.{IsFound, IsCause, IsMore, IsUnlessDisk, IsUntouched, Spares, after_birth};
+ghost use Rattle.store_journal.specs.Journal.{IsFound, IsCause, IsMore, IsUnlessDisk, IsUntouched, Spares, after_birth, synced_after};
 
+use crate::commit::write_synced;
 use crate::unit::{AROUND, CLOSED, OPEN, payload_size};
-use crate::{Area, Disk, OpenFault};
+use crate::{Area, Disk, DiskFailed, OpenFault};
 use std::alloc::Global;
 
 /// The text with which an area begins.
@@ -73,10 +75,11 @@ fn behind_units(octets: &[u8], from: usize) -> usize
 
 // The area that Pick picks, if it holds an octet.
 fn read_pick<D: Disk>(disk: &mut D) -> Result<Option<Area>, OpenFault>
-    ensures pick { IfOk result (λ pick. IfSome (D.contents disk.old) (λ areas. pick ≡ picked areas.pick)) }
+    ensures pick { IfOk result (λ pick. OnTrue D.tells (pick ≡ picked (D.contents disk.old).pick)) }
     ensures err { IfErr result (λ fault. fault ≡ OpenFault.Disk) }
     ensures kept { D.contents disk.new ≡ D.contents disk.old }
-    ensures faults { Spares (D.faults disk.old) (D.faults disk.new) result }
+    ensures kept_synced { D.synced disk.new ≡ D.synced disk.old }
+    ensures spares { Spares 2 (D.calls disk.old) (D.calls disk.new) (D.faults disk.old) (D.faults disk.new) result }
 {
     if disk.size(Area::Pick)? == 0 {
         return Ok(None);
@@ -92,10 +95,11 @@ fn read_pick<D: Disk>(disk: &mut D) -> Result<Option<Area>, OpenFault>
 
 // All octets of an area, in one read.
 fn read_whole<D: Disk>(alloc: Global, disk: &mut D, area: Area) -> Result<Vec<u8>, OpenFault>
-    ensures octets { IfOk result (λ octets. IfSome (D.contents disk.old) (λ areas. octets.items ≡ octets_of areas area)) }
+    ensures octets { IfOk result (λ octets. OnTrue D.tells (octets.items ≡ octets_of (D.contents disk.old) area)) }
     ensures kept { D.contents disk.new ≡ D.contents disk.old }
-    ensures cause { IfErr result (IsCause (D.contents disk.old)) }
-    ensures faults { Spares (D.faults disk.old) (D.faults disk.new) result }
+    ensures kept_synced { D.synced disk.new ≡ D.synced disk.old }
+    ensures cause { IfErr result (λ fault. OnTrue D.tells (IsCause (D.contents disk.old) fault)) }
+    ensures spares { Spares 2 (D.calls disk.old) (D.calls disk.new) (D.faults disk.old) (D.faults disk.new) result }
 {
     let size = disk.size(area)?;
     let mut octets = vec![in alloc; 0u8; size as usize]?;
@@ -136,11 +140,12 @@ fn check(octets: &[u8]) -> Result<(u64, usize), usize>
 
 // The picked area: its birth and its payloads.
 fn load_area<D: Disk>(alloc: Global, disk: &mut D, area: Area) -> Result<Found, OpenFault>
-    requires { IfSome (D.contents disk.old) (λ areas. picked areas.pick ≡ Some area) }
-    ensures found { IfOk result (λ found. (birth : ℕ) → IsFound (D.contents disk.old) (D.contents disk.new) birth found (payloads_in (drop found.place found.octets.items))) }
-    ensures cause { IfErr result (IsCause (D.contents disk.old)) }
+    requires { OnTrue D.tells (picked (D.contents disk.old).pick ≡ Some area) }
+    ensures found { IfOk result (λ found. (birth : ℕ) → IsFound D.tells (D.contents disk.old) (D.contents disk.new) birth found (payloads_in (drop found.place found.octets.items))) }
+    ensures synced { OnOk result (OnTrue D.tells (D.synced disk.new ≡ synced_after (stands (D.contents disk.old)) (D.synced disk.old))) }
+    ensures cause { IfErr result (λ fault. OnTrue D.tells (IsCause (D.contents disk.old) fault)) }
     ensures kept { D.contents disk.new ≡ D.contents disk.old }
-    ensures faults { Spares (D.faults disk.old) (D.faults disk.new) result }
+    ensures spares { Spares 2 (D.calls disk.old) (D.calls disk.new) (D.faults disk.old) (D.faults disk.new) result }
 {
     let octets = read_whole(alloc, disk, area)?;
     match check(&octets) {
@@ -160,10 +165,11 @@ fn load_area<D: Disk>(alloc: Global, disk: &mut D, area: Area) -> Result<Found, 
 
 // Refuses an area of a store that isn't born, where it holds more than a birth would write.
 fn refuse_more<D: Disk>(disk: &mut D, area: Area) -> Result<(), OpenFault>
-    ensures small { OnOk result (IfSome (D.contents disk.old) (λ areas. length (octets_of areas area) ≤ 17)) }
-    ensures cause { IfErr result (λ fault. IsMore (D.contents disk.old) area fault) }
+    ensures small { OnOk result (OnTrue D.tells (length (octets_of (D.contents disk.old) area) ≤ 17)) }
+    ensures cause { IfErr result (IsMore D.tells (D.contents disk.old) area) }
     ensures kept { D.contents disk.new ≡ D.contents disk.old }
-    ensures faults { Spares (D.faults disk.old) (D.faults disk.new) result }
+    ensures kept_synced { D.synced disk.new ≡ D.synced disk.old }
+    ensures spares { Spares 1 (D.calls disk.old) (D.calls disk.new) (D.faults disk.old) (D.faults disk.new) result }
 {
     if disk.size(area)? > FRESH {
         return Err(OpenFault::Foreign { area, at: FRESH });
@@ -171,42 +177,28 @@ fn refuse_more<D: Disk>(disk: &mut D, area: Area) -> Result<(), OpenFault>
     Ok(())
 }
 
-// Writes octets to the front of an area and syncs it.
-fn write_front<D: Disk>(disk: &mut D, area: Area, octets: &[u8]) -> Result<(), OpenFault>
-    requires { 0 < length octets.now }
-    ensures written { OnOk result (D.contents disk.new ≡ after_write area 0 octets.now (D.contents disk.old)) }
-    ensures told { is_some (D.contents disk.new) ≡ is_some (D.contents disk.old) }
-    ensures cause { IfErr result (λ fault. fault ≡ OpenFault.Disk) }
-    ensures faults { Spares (D.faults disk.old) (D.faults disk.new) result }
-{
-    disk.write_at(area, 0, octets)?;
-    disk.sync(area)?;
-    Ok(())
-}
-
 // Writes a store without payloads.
-fn write_fresh<D: Disk>(disk: &mut D, birth: u64) -> Result<(), OpenFault>
-    ensures written { OnOk result (D.contents disk.new ≡ after_birth birth (D.contents disk.old)) }
-    ensures told { is_some (D.contents disk.new) ≡ is_some (D.contents disk.old) }
-    ensures cause { IfErr result (λ fault. fault ≡ OpenFault.Disk) }
-    ensures faults { Spares (D.faults disk.old) (D.faults disk.new) result }
+fn write_fresh<D: Disk>(disk: &mut D, birth: u64) -> Result<(), DiskFailed>
+    ensures written { OnOk result (OnTrue D.tells (D.contents disk.new ≡ after_birth birth (D.contents disk.old))) }
+    ensures synced { OnOk result (OnTrue D.tells (D.synced disk.new ≡ all_synced)) }
+    ensures spends { Spends 6 (D.calls disk.old) (D.calls disk.new) (D.faults disk.old) (D.faults disk.new) result }
 {
     let octets = fresh_area(birth);
-    write_front(disk, Area::A, &octets)?;
-    write_front(disk, Area::B, &octets)?;
-    write_front(disk, Area::Pick, &[PICKS_A])
+    write_synced(disk, Area::A, 0, &octets)?;
+    write_synced(disk, Area::B, 0, &octets)?;
+    write_synced(disk, Area::Pick, 0, &[PICKS_A])
 }
 
 // The birth of a store that isn't born.
 fn bear<D: Disk>(disk: &mut D, birth: u64) -> Result<(), OpenFault>
-    requires { IfSome (D.contents disk.old) (λ areas. picked areas.pick ≡ None) }
-    ensures unborn { OnOk result (IfSome (D.contents disk.old) (λ areas. stands areas ≡ unborn)) }
-    ensures stored { OnOk result (IfSome (D.contents disk.new) (λ areas. IsStored areas Area.A birth [])) }
-    ensures cause { IfErr result (IsCause (D.contents disk.old)) }
-    ensures untouched { IsUntouched (D.contents disk.old) (D.contents disk.new) }
+    requires { OnTrue D.tells (picked (D.contents disk.old).pick ≡ None) }
+    ensures unborn { OnOk result (OnTrue D.tells (stands (D.contents disk.old) ≡ unborn)) }
+    ensures stored { OnOk result (OnTrue D.tells (IsStored (D.contents disk.new) Area.A birth [])) }
+    ensures synced { OnOk result (OnTrue D.tells (D.synced disk.new ≡ all_synced)) }
+    ensures cause { IfErr result (λ fault. OnTrue D.tells (IsCause (D.contents disk.old) fault)) }
+    ensures untouched { OnTrue D.tells (IsUntouched (D.contents disk.old) (D.contents disk.new)) }
     ensures kept { IfErr result (λ fault. IsUnlessDisk fault (D.contents disk.new ≡ D.contents disk.old)) }
-    ensures told { is_some (D.contents disk.new) ≡ is_some (D.contents disk.old) }
-    ensures faults { Spares (D.faults disk.old) (D.faults disk.new) result }
+    ensures spares { Spares 8 (D.calls disk.old) (D.calls disk.new) (D.faults disk.old) (D.faults disk.new) result }
 {
     refuse_more(disk, Area::A)?;
     refuse_more(disk, Area::B)?;
@@ -216,12 +208,12 @@ fn bear<D: Disk>(disk: &mut D, birth: u64) -> Result<(), OpenFault>
 
 /// What a store holds: that of its picked area, or nothing, where it isn't born and is born now.
 pub fn load<D: Disk>(alloc: Global, disk: &mut D, birth: u64) -> Result<Found, OpenFault>
-    ensures found { IfOk result (λ found. IsFound (D.contents disk.old) (D.contents disk.new) birth found (payloads_in (drop found.place found.octets.items))) }
-    ensures cause { IfErr result (IsCause (D.contents disk.old)) }
-    ensures untouched { IsUntouched (D.contents disk.old) (D.contents disk.new) }
+    ensures found { IfOk result (λ found. IsFound D.tells (D.contents disk.old) (D.contents disk.new) birth found (payloads_in (drop found.place found.octets.items))) }
+    ensures synced { OnOk result (OnTrue D.tells (D.synced disk.new ≡ synced_after (stands (D.contents disk.old)) (D.synced disk.old))) }
+    ensures cause { IfErr result (λ fault. OnTrue D.tells (IsCause (D.contents disk.old) fault)) }
+    ensures untouched { OnTrue D.tells (IsUntouched (D.contents disk.old) (D.contents disk.new)) }
     ensures kept { IfErr result (λ fault. IsUnlessDisk fault (D.contents disk.new ≡ D.contents disk.old)) }
-    ensures told { is_some (D.contents disk.new) ≡ is_some (D.contents disk.old) }
-    ensures faults { Spares (D.faults disk.old) (D.faults disk.new) result }
+    ensures spares { Spares 10 (D.calls disk.old) (D.calls disk.new) (D.faults disk.old) (D.faults disk.new) result }
 {
     match read_pick(disk)? {
         Some(area) => load_area(alloc, disk, area),

@@ -46,9 +46,9 @@ fn foreign(alloc: Global, a: &[u8], b: &[u8], pick: &[u8]) -> Result<Option<(Are
 
 // Takes the payloads that are left, and counts them.
 fn skip<D: Disk>(journal: &mut Journal<D>) -> Result<u64, Memory>
-    requires { IsKept D.contents journal.old }
+    requires { IsKept D.tells D.contents journal.old }
     ensures ended { OnOk result (left journal.new ≡ []) }
-    ensures kept { OnOk result (IsKept D.contents journal.new) }
+    ensures kept { OnOk result (IsKept D.tells D.contents journal.new) }
 {
     let mut count = 0u64;
     'payloads: loop {
@@ -82,9 +82,9 @@ fn append_to<D: Disk + Drop>(
 
 // Appends so many payloads.
 fn append_many<D: Disk>(journal: &mut Journal<D>, count: u8) -> Result<(), Fail>
-    requires kept { IsKept D.contents journal.old }
+    requires kept { IsKept D.tells D.contents journal.old }
     requires ended { left journal.old ≡ [] }
-    ensures { OnOk result (IsKept D.contents journal.new) }
+    ensures { OnOk result (IsKept D.tells D.contents journal.new) }
 {
     for number in 0..count {
         journal.reserve(&[number; 66])?;
@@ -150,7 +150,7 @@ fn two_hundred_appends_give_two_hundred_payloads(rt: HostRuntime) -> Result<(), 
     };
     assert_eq!(rt; skip(&mut journal)?, 0);
     append_many(&mut journal, 200)?;
-    match journal.reopen(alloc) {
+    match Journal::open(alloc, journal.close(), 0) {
         Ok(mut again) => assert_eq!(rt; skip(&mut again)?, 200),
         Err((_disk, fault)) => assert!(rt; false, "{fault:?}"),
     }

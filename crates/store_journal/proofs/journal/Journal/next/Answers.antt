@@ -32,7 +32,7 @@ returns-in-Ok-clause-next g c =
 
 pub returns-in-Ok-clause-same : goal.returns-in-Ok-clause-same
 returns-in-Ok-clause-same g c = λ birth payloads is.
-    handed_on g.D.Disk.contents c.args.self.now _ birth payloads is c.in-Ok.payload (returns-in-Ok-clause-next g c) refl refl refl (step_of g c).inside refl refl refl
+    handed_on g.D.Disk.tells g.D.Disk.contents c.args.self.now _ birth payloads is c.in-Ok.payload (returns-in-Ok-clause-next g c) refl refl refl (step_of g c).inside refl refl refl
 
 pub returns-in-Ok-clause-kept : goal.returns-in-Ok-clause-kept
 returns-in-Ok-clause-kept g c = (c.requires.0, c.requires.1, returns-in-Ok-clause-same g c c.requires.0 c.requires.1 c.requires.2)
