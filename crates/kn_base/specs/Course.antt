@@ -1,6 +1,6 @@
 -- What one end of a connection has been through so far, as far as it tells that.
-use Rattle.std.specs.Prelude.{◌≡◌, ◌⊎◌, ℕ, ◌≤◌, Bool, true, List, [], ◌∷◌, ◌++◌, length, take, drop, Option, IfSome, option_map}
-use Rattle.kn_base.specs.Count.{Rose}
+use Rattle.std.specs.Prelude.{◌≡◌, ℕ, ◌≤◌, true, List, [], ◌∷◌, ◌++◌, length, take, drop, Option, IfSome, option_map}
+use Rattle.kn_base.specs.Count.{Counts, no_counts, CountsFailure, CountsQuiet}
 use Rattle.kn_base.specs.declared.piece.Piece.{Piece}
 use Rattle.kn_base.specs.declared.piece.Piece.TheVariants.{Heard, Said}
 use Rattle.kn_base.specs.declared.source.Take.{Take}
@@ -8,16 +8,19 @@ use Rattle.kn_base.specs.declared.source.Take.TheVariants as take_is
 use Rattle.kn_base.specs.declared.sink.Give.{Give}
 use Rattle.kn_base.specs.declared.sink.Give.TheVariants as give_is
 
--- Counts of what went wrong, whether a take has answered that nothing more comes, and, each where it is told,
--- what is still to be taken, what was given, and the pieces that were heard and said in their order.
+-- Its counts and, each where it is told, what is still to be taken, what was given, and the pieces that were heard and said
+-- in their order.
 pub record Course : Type 0 where
-  pub faults : ℕ
-  pub starved : ℕ
-  pub quiets : ℕ
-  pub ended : Bool
+  pub counts : Counts
   pub left : Option (List ℕ)
   pub given : Option (List ℕ)
   pub talk : Option (List Piece)
+
+-- Nothing has happened yet.
+pub record IsFresh (course : Course) : Type 0 where
+  pub counts : course.counts ≡ no_counts
+  pub given : IfSome course.given (λ given. given ≡ [])
+  pub talk : IfSome course.talk (λ talk. talk ≡ [])
 
 -- a list with more behind it, where it is told
 abbrev pub with_more : {A : Type 0} → Option (List A) → List A → Option (List A)
@@ -27,12 +30,10 @@ with_more told more = option_map (λ xs. xs ++ more) told
 abbrev pub IsNext : List ℕ → Option (List ℕ) → Type 0
 IsNext octets left = IfSome left (λ all. (rest : List ℕ) × (all ≡ octets ++ rest))
 
--- A call failed: a fault or a want of memory was counted, and nothing else happened.
+-- A call failed, and nothing else happened.
 pub record Fails (old new : Course) : Type 0 where
-  pub cause : Rose old.faults new.faults ⊎ Rose old.starved new.starved
-  pub faults : old.faults ≤ new.faults
-  pub starved : old.starved ≤ new.starved
-  pub same : new ≡ record old { faults = new.faults; starved = new.starved }
+  pub counts : CountsFailure old.counts new.counts
+  pub same : new ≡ record old { counts = new.counts }
 
 -- A take gave n octets, the first of the buffer: they were the next that were left, and were heard.
 pub record Hears (buffer : List ℕ) (n : ℕ) (old new : Course) : Type 0 where
@@ -41,16 +42,15 @@ pub record Hears (buffer : List ℕ) (n : ℕ) (old new : Course) : Type 0 where
   pub next : IsNext (take n buffer) old.left
   pub after : new ≡ record old { left = option_map (drop n) old.left; talk = with_more old.talk (Heard (take n buffer) ∷ []) }
 
--- Nothing came: a quiet was counted, and nothing else happened.
+-- Nothing came in time, and nothing else happened.
 pub record IsQuiet (old new : Course) : Type 0 where
-  pub quiets : Rose old.quiets new.quiets
-  pub kept : old.quiets ≤ new.quiets
-  pub same : new ≡ record old { quiets = new.quiets }
+  pub counts : CountsQuiet old.counts new.counts
+  pub same : new ≡ record old { counts = new.counts }
 
 -- Nothing more comes: where it is told, nothing is left.
 pub record Ends (old new : Course) : Type 0 where
   pub nothing : IfSome old.left (λ left. left ≡ [])
-  pub same : new ≡ record old { ended = true }
+  pub same : new ≡ record old { counts = record (old.counts) { ended = true } }
 
 -- what a take does, by its answer; buffer is what it was passed, as it leaves it
 abbrev pub TakesSo : List ℕ → Take → Course → Course → Type 0
@@ -62,7 +62,7 @@ TakesSo buffer take_is.Failed old new = Fails old new
 -- A take, which answers End for ever once it has done so.
 pub record Takes (buffer : List ℕ) (answer : Take) (old new : Course) : Type 0 where
   pub so : TakesSo buffer answer old new
-  pub for_ever : old.ended ≡ true → answer ≡ take_is.End
+  pub for_ever : old.counts.ended ≡ true → answer ≡ take_is.End
 
 -- A give took the first n octets: they were given, and said.
 pub record Says (octets : List ℕ) (n : ℕ) (old new : Course) : Type 0 where

@@ -5,6 +5,7 @@ use Rattle.kn_base.specs.declared.piece.Piece.TheVariants.{Heard, Said}
 use Rattle.kn_base.specs.declared.piece.Past.{Past}
 use Rattle.kn_base.specs.declared.writing.Wrote.{Wrote}
 use Rattle.kn_base.specs.declared.writing.Wrote.TheVariants as wrote_is
+use Rattle.kn_base.specs.Count.{Counts}
 use Rattle.kn_base.specs.Course.{Course, with_more, Fails}
 
 -- the octets of what was said, one piece after another
@@ -38,10 +39,11 @@ abbrev pub WritesAll : List ℕ → Wrote → Course → Course → Type 0
 WritesAll octets wrote_is.All old new = SaysAll octets old new
 WritesAll octets (wrote_is.Failed gone) old new = SaysFront octets gone old new
 
+-- the counts that a past has
+abbrev pub counts_of : Past → Counts
+counts_of past = record { faults = past.faults; starved = past.starved; quiets = past.quiets; ended = past.ended }
+
 -- The past is that of an end with this course, whose talk is told.
 pub record IsPastOf (course : Course) (past : Past) : Type 0 where
   pub pieces : course.talk ≡ Some past.pieces
-  pub faults : past.faults ≡ course.faults
-  pub starved : past.starved ≡ course.starved
-  pub quiets : past.quiets ≡ course.quiets
-  pub ended : past.ended ≡ course.ended
+  pub counts : course.counts ≡ counts_of past

@@ -1,9 +1,9 @@
 //! The machine's clock. This is the trusted edge: it tells no readings.
 
-ghost use Rattle.std.specs.Prelude.{◌<◌, ◌^◌};
+ghost use Rattle.std.specs.Prelude.{◌≡◌, ◌<◌, ◌^◌};
 
 use crate::Clock;
-use crate::mem_clock::CLOCK_END;
+use crate::clock::CLOCK_END;
 use std::rt::Clock as SystemClock;
 use std::time::Duration;
 
@@ -17,7 +17,9 @@ pub struct HostClock<R: SystemClock + Drop> {
 
 impl<R: SystemClock + Drop> HostClock<R> {
     /// The clock before its first reading.
-    pub fn new(rt: R) -> HostClock<R> {
+    pub fn new(rt: R) -> HostClock<R>
+        ensures { ⟦<HostClock<R> as Clock>⟧.latest result ≡ 0 }
+    {
         HostClock { rt, latest: 0 }
     }
 }

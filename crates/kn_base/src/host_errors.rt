@@ -1,5 +1,7 @@
 //! Standard error as a sink. This is the trusted edge: it tells no content.
 
+ghost use Rattle.kn_base.specs.Course.{IsFresh};
+
 use crate::{Give, Meter, Sink, raised};
 
 /// The sink on standard error, for text in UTF-8.
@@ -11,7 +13,9 @@ pub struct HostErrors<R: Eprint + Drop> {
 
 impl<R: Eprint + Drop> HostErrors<R> {
     /// The sink before its first call.
-    pub fn new(rt: R) -> HostErrors<R> {
+    pub fn new(rt: R) -> HostErrors<R>
+        ensures { IsFresh (⟦<HostErrors<R> as Meter>⟧.course result) }
+    {
         HostErrors { rt, faults: 0 }
     }
 }

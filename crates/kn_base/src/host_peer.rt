@@ -1,5 +1,7 @@
 //! Standard input and output as a peer. This is the trusted edge: it tells no content.
 
+ghost use Rattle.kn_base.specs.Course.{IsFresh};
+
 use crate::{Give, Meter, Past, Peer, Sink, Source, Take, raised};
 use std::io::Read;
 
@@ -14,7 +16,9 @@ pub struct HostPeer<R: Input + Print + Drop> {
 
 impl<R: Input + Print + Drop> HostPeer<R> {
     /// The peer before its first call.
-    pub fn new(rt: R) -> HostPeer<R> {
+    pub fn new(rt: R) -> HostPeer<R>
+        ensures { IsFresh (⟦<HostPeer<R> as Meter>⟧.course result) }
+    {
         let input = rt.reader();
         HostPeer {
             rt,

@@ -1,5 +1,7 @@
 //! The machine's files as a shelf. This is the trusted edge: it tells no content.
 
+ghost use Rattle.std.specs.Prelude.{◌≡◌};
+
 use crate::{Octets, Shelf, ShelfFault, raised};
 use std::alloc::Global;
 use std::fs::File;
@@ -10,13 +12,21 @@ use std::rt::Files;
 #[derive(Drop)]
 pub struct HostShelf<R: Files + Drop> {
     rt: R,
+    calls: u64,
     faults: u64,
 }
 
 impl<R: Files + Drop> HostShelf<R> {
     /// The shelf before its first call.
-    pub fn new(rt: R) -> HostShelf<R> {
-        HostShelf { rt, faults: 0 }
+    pub fn new(rt: R) -> HostShelf<R>
+        ensures calls { ⟦<HostShelf<R> as Shelf>⟧.calls result ≡ 0 }
+        ensures faults { ⟦<HostShelf<R> as Shelf>⟧.faults result ≡ 0 }
+    {
+        HostShelf {
+            rt,
+            calls: 0,
+            faults: 0,
+        }
     }
 }
 
@@ -42,9 +52,12 @@ impl<R: Files + Drop> Shelf for HostShelf<R> {
 
     ghost files = { λ _. None };
 
+    ghost calls = { λ s. s.calls };
+
     ghost faults = { λ s. s.faults };
 
     fn file(&mut self, alloc: Global, name: &[u8]) -> Result<Octets, ShelfFault> {
+        self.calls = raised(self.calls);
         let read = read_file(&self.rt, alloc, name);
         if let Err(ShelfFault::Failed) = read {
             self.faults = raised(self.faults);

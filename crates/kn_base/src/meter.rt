@@ -10,5 +10,5 @@ pub trait Meter {
 
     /// How many calls found no memory.
     fn starved(&self) -> u64
-        ensures { result ≡ (course self.now).starved };
+        ensures { result ≡ (course self.now).counts.starved };
 }

@@ -1,7 +1,7 @@
 //! Where configuration files stand.
 
 ghost use Rattle.std.specs.Prelude.{◌≡◌, ℕ, ◌≤◌, List, Option, Some, IfOk, IfSome, IsErrOf};
-ghost use Rattle.kn_base.specs.Count.{Rose};
+ghost use Rattle.kn_base.specs.Count.{Rose, next_count};
 ghost use Rattle.kn_base.specs.Shelf.{text_of};
 
 use crate::{Memory, Octets};
@@ -32,6 +32,9 @@ pub trait Shelf {
     /// The names and texts, where they are told. Of a name that stands twice the first counts.
     ghost files: { Self → Option (List (List ℕ × List ℕ)) };
 
+    /// How many calls were made.
+    ghost calls: { Self → ℕ };
+
     /// How often a file could not be read.
     ghost faults: { Self → ℕ };
 
@@ -39,6 +42,7 @@ pub trait Shelf {
     fn file(&mut self, alloc: Global, name: &[u8]) -> Result<Octets, ShelfFault>
         ensures text { IfOk result (λ text. IfSome (files self.old) (λ all. text_of name.now all ≡ Some text)) }
         ensures files { files self.new ≡ files self.old }
+        ensures calls { calls self.new ≡ next_count (calls self.old) }
         ensures failed { IsErrOf result ShelfFault.Failed → Rose (faults self.old) (faults self.new) }
         ensures kept { faults self.old ≤ faults self.new };
 }
