@@ -3,7 +3,7 @@ use Rattle.std.proofs.Common.{◌≡◌, ℕ, ◌+◌, ◌<◌, ◌≤◌, Bool,
 use Rattle.std.specs.List.{list_any}
 use Rattle.std.proofs.lemmas.List.{take-map, get_or-map, length-map}
 use Rattle.std.proofs.lemmas.List.Folds.{list_any_at, list_any_more}
-use Rattle.sendsms_http.specs.Heads.{NamedValue}
+use Rattle.sendsms_http.specs.Head.{NamedValue}
 
 -- the same name and the same value
 pub same_field : (name value : List ℕ) {x y : List ℕ} → name ≡ x → value ≡ y → ◌≡◌ {A = NamedValue} (name, value) (x, y)

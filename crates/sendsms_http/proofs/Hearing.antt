@@ -1,59 +1,82 @@
 -- Hearing octets in several takes.
-use Rattle.std.proofs.Common.{◌≡◌, ◌≢◌, ℕ, ◌≤◌, Bool, true, List, [], ◌∷◌, ◌++◌, length, take, Option, refl, ap, sym, ◌∙◌, subst, arith, append_assoc}
-use Rattle.std.proofs.lemmas.List.{append-nil, length-take}
+use Rattle.std.proofs.Common.{◌≡◌, ◌≢◌, ℕ, ◌+◌, ◌≤◌, Bool, true, false, List, [], ◌∷◌, ◌++◌, length, take, map, refl, ap, sym, ◌∙◌, subst, arith, append_assoc, length-append}
+use Rattle.std.specs.List.{concat}
+use Rattle.std.proofs.lemmas.List.{append-nil, length-take, map-append}
+use Rattle.std.proofs.lemmas.List.Folds.{concat-append}
 use Rattle.kn_base.specs.declared.piece.Piece.{Piece}
 use Rattle.kn_base.specs.declared.piece.Piece.TheVariants.{Heard}
-use Rattle.kn_base.specs.Course.{Course, with_more, Hears}
-use Rattle.kn_base.specs.Talk.{said_of, heard_of}
-use Rattle.kn_base.proofs.Talks.{said_of-append, heard_of-append, with_more-with_more, with_more-nil}
-use Rattle.sendsms_http.specs.Listening.{HearsAll}
+use Rattle.kn_base.specs.Course.{Course, with_more, Hears, Ends, IsQuiet}
+use Rattle.kn_base.proofs.Talks.{with_more-with_more, with_more-nil}
+use Rattle.sendsms_http.specs.Head.{head_limit, NeedsMore}
+use Rattle.sendsms_http.specs.Session.{AreNeeded, IsHeard}
+use Rattle.sendsms_http.specs.SessionSteps.{Listens}
 
--- hearing nothing
-pub HearsAll-nil : (c : Course) → HearsAll [] c c
-HearsAll-nil c = record {
-  pieces = [];
-  heard = refl;
-  nothing_said = refl;
+-- before the first take nothing was heard
+pub Listens-nil : (c : Course) → Listens [] false c c
+Listens-nil c = record {
+  takes = [];
+  joined = refl;
+  is_heard = record { needed = tt; within = omega arith };
   after = ap (λ t. record c { talk = t }) (sym (with_more-nil c.talk));
 }
 
--- hearing some octets and then others
-pub HearsAll-append : (xs ys : List ℕ) (a b c : Course) → HearsAll xs a b → HearsAll ys b c → HearsAll (xs ++ ys) a c
-HearsAll-append xs ys a b c s t = record {
-  pieces = s.pieces ++ t.pieces;
-  heard = heard_of-append s.pieces t.pieces ∙ ap (λ front. front ++ heard_of t.pieces) s.heard ∙ ap (λ back. xs ++ back) t.heard;
-  nothing_said = said_of-append s.pieces t.pieces ∙ ap (λ front. front ++ said_of t.pieces) s.nothing_said ∙ t.nothing_said;
-  after = t.after
-      ∙ ap (λ (d : Course). record d { ended = c.ended; left = c.left; talk = with_more d.talk t.pieces }) s.after
-      ∙ ap (λ told. record a { ended = c.ended; left = c.left; talk = told }) (with_more-with_more a.talk s.pieces t.pieces);
-}
+-- one take more, which is needed
+AreNeeded-more : (heard : List ℕ) (takes : List (List ℕ)) (octets : List ℕ) → AreNeeded heard takes
+    → NeedsMore (heard ++ concat takes) → AreNeeded heard (takes ++ octets ∷ [])
+AreNeeded-more heard [] octets needed more = (subst NeedsMore (append-nil heard) more, tt)
+AreNeeded-more heard (first ∷ takes) octets needed more = (
+  needed.0,
+  AreNeeded-more (heard ++ first) takes octets needed.1 (subst NeedsMore (sym (append_assoc heard first (concat takes))) more),
+)
 
--- one take
-pub HearsAll-take : (buffer : List ℕ) (n : ℕ) (a b : Course) → Hears buffer n a b → HearsAll (take n buffer) a b
-HearsAll-take buffer n a b h = record {
-  pieces = Heard (take n buffer) ∷ [];
-  heard = append-nil (take n buffer);
-  nothing_said = refl;
-  after = h.after ∙ ap (λ (c : Course). record a { ended = c.ended; left = c.left; talk = with_more a.talk (Heard (take n buffer) ∷ []) }) (sym h.after);
+-- what a take does, with what it leaves named by what is left
+hears_after : (buffer : List ℕ) (n : ℕ) (b c : Course) → Hears buffer n b c
+    → c ≡ record b { left = c.left; talk = with_more b.talk (Heard (take n buffer) ∷ []) }
+hears_after buffer n b c h =
+    h.after ∙ ap (λ (d : Course). record b { left = d.left; talk = with_more b.talk (Heard (take n buffer) ∷ []) }) (sym h.after)
+
+-- octets were heard, and then those of one take more
+pub Listens-more : (heard buffer : List ℕ) (n : ℕ) (a b c : Course) → Listens heard false a b → NeedsMore heard → Hears buffer n b c
+    → length (heard ++ take n buffer) ≤ head_limit → Listens (heard ++ take n buffer) false a c
+Listens-more heard buffer n a b c l more h within =
+    let joined : concat (l.takes ++ take n buffer ∷ []) ≡ heard ++ take n buffer =
+    concat-append l.takes (take n buffer ∷ []) ∙ ap (λ front. front ++ (take n buffer ++ [])) l.joined ∙ ap (λ back. heard ++ back) (append-nil (take n buffer)) in
+    record {
+      takes = l.takes ++ take n buffer ∷ [];
+      joined = joined;
+      is_heard = record {
+        needed = AreNeeded-more [] l.takes (take n buffer) l.is_heard.needed (subst NeedsMore (sym l.joined) more);
+        within = subst (λ (octets : List ℕ). length octets ≤ head_limit) (sym joined) within;
+      };
+      after = hears_after buffer n b c h
+          ∙ ap (λ (d : Course). record d { left = c.left; talk = with_more d.talk (Heard (take n buffer) ∷ []) }) l.after
+          ∙ ap (λ t. record a { left = c.left; talk = t }) (with_more-with_more a.talk (map Heard l.takes) (Heard (take n buffer) ∷ []))
+          ∙ ap (λ pieces. record a { left = c.left; talk = with_more a.talk pieces }) (sym (map-append Heard l.takes (take n buffer ∷ [])));
+    }
+
+-- octets were heard, and then the input ended
+pub Listens-end : (heard : List ℕ) (a b c : Course) → Listens heard false a b → Ends b c → Listens heard true a c
+Listens-end heard a b c l e = record {
+  takes = l.takes;
+  joined = l.joined;
+  is_heard = l.is_heard;
+  after = e.same
+      ∙ ap (λ (d : Course). record d { counts = record (d.counts) { ended = true } }) l.after
+      ∙ ap (λ (d : Course). record a { counts = record (a.counts) { ended = true }; left = d.left; talk = with_more a.talk (map Heard l.takes) }) (sym e.same);
 }
 
 -- a take gives some octets
-pub some_taken : (buffer : List ℕ) (n : ℕ) (a b : Course) → Hears buffer n a b → take n buffer ≢ []
-some_taken buffer n a b h = λ none.
+pub some_taken : (heard buffer : List ℕ) (n : ℕ) (b c : Course) → Hears buffer n b c → heard ++ take n buffer ≢ []
+some_taken heard buffer n b c h = λ none.
     let some : 1 ≤ n = h.some in
     let within : n ≤ length buffer = h.within in
-    let empty : length (take n buffer) ≡ 0 = ap length none in
-    absurd (omega (arith, length-take n buffer))
+    let empty : length (heard ++ take n buffer) ≡ 0 = ap length none in
+    absurd (omega (arith, simp length-append at empty, length-take n buffer))
 
--- hearing some octets, and then the end
-pub HearsAll-end : (xs : List ℕ) (a b c : Course) → HearsAll xs a b → HearsAll [] b c → HearsAll xs a c
-HearsAll-end xs a b c s t = subst (λ octets. HearsAll octets a c) (append-nil xs) (HearsAll-append xs [] a b c s t)
-
--- what was heard and then more, as it is kept
-pub heard_more : (xs ys zs : List ℕ) (a b c : Course) → zs ≡ xs ++ ys → HearsAll xs a b → HearsAll ys b c → HearsAll zs a c
-heard_more xs ys zs a b c e s t = subst (λ octets. HearsAll octets a c) (sym e) (HearsAll-append xs ys a b c s t)
-
--- some octets behind others are some
-pub append_some : (xs ys : List ℕ) → ys ≢ [] → xs ++ ys ≢ []
-append_some [] ys some = some
-append_some (x ∷ xs) ys some = λ none. cc
+-- what was heard and then more, as it is kept: some octets, in takes that were needed
+pub heard_more : (heard buffer : List ℕ) (n : ℕ) (all : List ℕ) (a b c : Course) → all ≡ heard ++ take n buffer → Listens heard false a b
+    → NeedsMore heard → Hears buffer n b c → length heard + length buffer ≤ head_limit → (all ≢ []) × Listens all false a c
+heard_more heard buffer n all a b c e l more h room =
+    let within : length (heard ++ take n buffer) ≤ head_limit = omega (arith, length-append heard (take n buffer), length-take n buffer) in
+    subst (λ octets. (octets ≢ []) × Listens octets false a c) (sym e)
+    (some_taken heard buffer n b c h, Listens-more heard buffer n a b c l more h within)

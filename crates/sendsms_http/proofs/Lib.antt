@@ -1,12 +1,11 @@
-pub mod AskedLemmas
+pub mod AnswerLemmas
 pub mod Fields
+pub mod FormLemmas
 pub mod Handing
+pub mod HeadLemmas
 pub mod Hearing
-pub mod HeadsRead
-pub mod Lengths
 pub mod LineCounts
-pub mod MessageLemmas
+pub mod RequestLemmas
 pub mod Requests
-pub mod Saying
 pub mod SessionLemmas
 pub mod TargetLemmas

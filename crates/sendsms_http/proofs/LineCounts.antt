@@ -11,8 +11,8 @@ use Rattle.httparse.specs.Grammar.{is_token_byte, is_uri_byte, is_value_byte, Al
 use Rattle.httparse.specs.Pieces.{is_newline, Stops}
 use Rattle.httparse.proofs.PieceLemmas.{token_is_no_newline, Stops_token, Stops-FieldLine, print_field-append}
 use Rattle.httparse.proofs.GrammarLemmas.{print_request-append, cons-append}
-use Rattle.sendsms_http.specs.Heads.{Stands, HasNone, NeverHas, MayHave, IsOpen}
-use Rattle.sendsms_http.specs.Lines.{behind_blank, begins_after, has_too_many_lines}
+use Rattle.sendsms_http.specs.Head.{Stands, HasNone, NeverHas, MayHave, IsOpen}
+use Rattle.sendsms_http.specs.HeadSteps.{behind_blank, begins_after, has_too_many_lines}
 
 -- ---- an octet that ends no line
 

@@ -1,198 +1,277 @@
 -- A session, put together from what was heard, what it came to and what was said.
-use Rattle.std.proofs.Common.{◌≡◌, ◌≢◌, ◌⊎◌, inl, inr, ℕ, ◌≤◌, Bool, true, List, [], ◌∷◌, ◌++◌, length, take, All, Option, Some, None, refl, ap, sym, ◌∙◌, subst, arith}
+use Rattle.std.proofs.Common.{◌≡◌, ◌≢◌, ◌⊎◌, inl, inr, ℕ, ◌≤◌, Bool, true, false, ◌||◌, List, [], ◌∷◌, ◌++◌, length, take, map, All, Option, Some, None, Result, Ok, Err, refl, ap, sym, ◌∙◌, subst, arith}
+use Rattle.std.specs.List.{concat}
 use Rattle.std.proofs.lemmas.List.{append-nil}
-use Rattle.std.proofs.lemmas.List.Elements.{All-nil}
+use Rattle.std.proofs.lemmas.List.Elements.{All-nil, All-cons, All-head}
 use Rattle.kn_base.specs.declared.piece.Piece.{Piece}
-use Rattle.kn_base.specs.Count.{Rose}
+use Rattle.kn_base.specs.declared.piece.Piece.TheVariants.{Heard}
+use Rattle.kn_base.specs.Count.{Counts, CountsFailure, Rose}
 use Rattle.kn_base.specs.Course.{Course, with_more, Fails, IsQuiet}
 use Rattle.kn_base.specs.Talk.{said_of, heard_of, SaysAll, SaysFront}
-use Rattle.kn_base.proofs.Talks.{said_of-append, heard_of-append, with_more-with_more}
+use Rattle.kn_base.proofs.Talks.{with_more-with_more}
+use Rattle.sms_record.specs.declared.sms.Sms.{Sms}
 use Rattle.sendsms_http.specs.declared.answer.Answer.{Answer}
 use Rattle.sendsms_http.specs.declared.answer.Answer.TheVariants.{BadRequest, OutOfMemory}
-use Rattle.sendsms_http.specs.declared.answer.Spot.TheVariants.{NotBuilt}
-use Rattle.sendsms_http.specs.declared.ending.HttpEnd.{HttpEnd}
-use Rattle.sendsms_http.specs.declared.ending.HttpEnd.TheVariants as end_is
+use Rattle.sendsms_http.specs.declared.answer.spot.Spot.TheVariants.{NotBuilt}
+use Rattle.sendsms_http.specs.declared.http_end.HttpEnd.{HttpEnd}
+use Rattle.sendsms_http.specs.declared.http_end.HttpEnd.TheVariants.{End, Fault, Quiet, Memory}
 use Rattle.sendsms_http.specs.declared.head.Head.{Head}
-use Rattle.sendsms_http.specs.Answers.{reply_text}
-use Rattle.sendsms_http.specs.Asked.{asked}
-use Rattle.sendsms_http.specs.Deeds.{Deed}
-use Rattle.sendsms_http.specs.Heads.{looked_at, HasNone}
-use Rattle.sendsms_http.specs.Listening.{HearsAll, FailsAs, StopsBefore, RequestComesTo, SaysAs}
-use Rattle.sendsms_http.specs.Session.{IsHeadHeard, IsNoRequest, ComesTo, Answers, SaysSo, IsSilence, Silent, Answered, HttpTalk, AddsAll, IsFaultCounted, Serves, NoneFell, IsCaused}
+use Rattle.sendsms_http.specs.declared.reply.Reply.{Reply}
+use Rattle.sendsms_http.specs.declared.reply.Refusal.{Refusal}
+use Rattle.sendsms_http.specs.Answer.{reply_text}
+use Rattle.sendsms_http.specs.Acceptor.{Deed, CountsFaults, IsFaultCounted, IsSpared}
+use Rattle.sendsms_http.specs.Head.{NeedsMore}
+use Rattle.sendsms_http.specs.Session.{IsHeadHeard, IsNoRequest, Answers, SaysSo, IsSilence, HttpTalk, AddsAll, Talks, Serves, NoneFell, IsCaused, IsCutShort}
+use Rattle.sendsms_http.specs.SessionSteps.{IsFailure, Stops, Listens, Says, RequestComesTo}
 
--- What saying or stopping adds to a talk that was heard.
-pub record Adds (end : HttpEnd) (pieces : List Piece) (b c : Course) : Type 0 where
-  pub nothing_heard : heard_of pieces ≡ []
-  pub talk : c.talk ≡ with_more b.talk pieces
-  pub ended : c.ended ≡ b.ended
-  pub fell : NoneFell b c
-  pub cause : IsCaused end b c
+-- ---- counts
 
--- counts that are the same did not fall
-same_counts : (b c : Course) → c.faults ≡ b.faults → c.starved ≡ b.starved → c.quiets ≡ b.quiets → NoneFell b c
-same_counts b c f s q = record { faults = omega (arith, f); starved = omega (arith, s); quiets = omega (arith, q) }
+-- no count rose
+abbrev NoneRose : Counts → Counts → Type 0
+NoneRose old new = IsCaused End old new
 
--- a failure lets no count fall
-fails_counts : (b c : Course) → Fails b c → NoneFell b c
-fails_counts b c f = record { faults = f.faults; starved = f.starved; quiets = omega (arith, ap (λ (d : Course). d.quiets) f.same) }
+same_counts : (a b : Counts) → b ≡ a → NoneRose a b
+same_counts a b e = e ∙ ap (λ (d : Counts). record a { ended = d.ended }) (sym e)
 
-NoneFell-trans : (a b c : Course) → NoneFell a b → NoneFell b c → NoneFell a c
-NoneFell-trans a b c s t = record {
-  faults = omega (arith, s.faults, t.faults);
-  starved = omega (arith, s.starved, t.starved);
-  quiets = omega (arith, s.quiets, t.quiets);
+none_fell : (a b : Counts) → NoneRose a b → NoneFell a b
+none_fell a b s = record {
+  faults = omega (arith, ap (λ (d : Counts). d.faults) s);
+  starved = omega (arith, ap (λ (d : Counts). d.starved) s);
+  quiets = omega (arith, ap (λ (d : Counts). d.quiets) s);
 }
 
--- saying a whole text
-says_counts : (text : List ℕ) (b c : Course) → SaysAll text b c → NoneFell b c
-says_counts text b c s = same_counts b c (ap (λ (d : Course). d.faults) s.after) (ap (λ (d : Course). d.starved) s.after) (ap (λ (d : Course). d.quiets) s.after)
-
-pub says_all : (text : List ℕ) (b c : Course) (s : SaysAll text b c) → Adds end_is.End s.pieces b c
-says_all text b c s = record {
-  nothing_heard = s.nothing_heard;
-  talk = ap (λ (d : Course). d.talk) s.after;
-  ended = ap (λ (d : Course). d.ended) s.after;
-  fell = says_counts text b c s;
-  cause = tt;
+-- counts that didn't rise in a first step stand for those before it
+fell_behind : (a b c : Counts) → NoneRose a b → NoneFell b c → NoneFell a c
+fell_behind a b c s t = record {
+  faults = omega (arith, ap (λ (d : Counts). d.faults) s, t.faults);
+  starved = omega (arith, ap (λ (d : Counts). d.starved) s, t.starved);
+  quiets = omega (arith, ap (λ (d : Counts). d.quiets) s, t.quiets);
 }
 
--- saying a front of a text, at an end whose count rose
-says_front : (end : HttpEnd) (text : List ℕ) (gone : ℕ) (b c : Course) (s : SaysFront text gone b c) → IsCaused end b c → Adds end s.front.pieces b c
-says_front end text gone b c s cause = record {
-  nothing_heard = s.front.nothing_heard;
-  talk = ap (λ (d : Course). d.talk) s.fails.same ∙ ap (λ (d : Course). d.talk) s.front.after;
-  ended = ap (λ (d : Course). d.ended) s.fails.same ∙ ap (λ (d : Course). d.ended) s.front.after;
-  fell = NoneFell-trans b s.between c (says_counts (take gone text) b s.between s.front) (fails_counts s.between c s.fails);
-  cause = cause;
+caused_behind : (end : HttpEnd) (a b c : Counts) → NoneRose a b → IsCaused end b c → IsCaused end a c
+caused_behind End a b c s r = r ∙ ap (λ (d : Counts). record d { ended = c.ended }) s
+caused_behind Fault a b c s r = subst (λ n. Rose n c.faults) (ap (λ (d : Counts). d.faults) s) r
+caused_behind Quiet a b c s r = subst (λ n. Rose n c.quiets) (ap (λ (d : Counts). d.quiets) s) r
+caused_behind Memory a b c s r = subst (λ n. Rose n c.starved) (ap (λ (d : Counts). d.starved) s) r
+
+-- listening lets the counts stand
+listens_counts : (heard : List ℕ) (ended : Bool) (a b : Course) → Listens heard ended a b → NoneRose a.counts b.counts
+listens_counts heard ended a b l =
+    let e : b.counts ≡ record (a.counts) { ended = ended || a.counts.ended } = ap (λ (d : Course). d.counts) l.after in
+    e ∙ ap (λ (d : Counts). record (a.counts) { ended = d.ended }) (sym e)
+
+-- ---- calls that fail
+
+pub quiet_stops : (b c : Course) → IsQuiet b c → Stops Quiet b c
+quiet_stops b c q = record {
+  no_end = λ e. cc;
+  talk = ap (λ (d : Course). d.talk) q.same;
+  ended = ap (λ (d : Counts). d.ended) q.counts.same;
+  fell = record {
+    faults = omega (arith, ap (λ (d : Counts). d.faults) q.counts.same);
+    starved = omega (arith, ap (λ (d : Counts). d.starved) q.counts.same);
+    quiets = q.counts.kept;
+  };
+  caused = q.counts.quiets;
 }
 
--- what was said of a text, and what that adds
-pub said_some : (end : HttpEnd) (text : List ℕ) (b c : Course) → SaysAs end text b c
-    → (pieces : List Piece) × Adds end pieces b c × SaysSo end text (said_of pieces)
-said_some end_is.End text b c s = (s.pieces, says_all text b c s, s.said)
-said_some end_is.Fault text b c s = (s.1.front.pieces, says_front end_is.Fault text s.0 b c s.1 s.2, (s.0, s.1.less, s.1.front.said))
-said_some end_is.Quiet text b c s = absurd s
-said_some end_is.Memory text b c s = (s.1.front.pieces, says_front end_is.Memory text s.0 b c s.1 s.2, (s.0, s.1.less, s.1.front.said))
+fails_fell : (b c : Counts) → CountsFailure b c → NoneFell b c
+fails_fell b c f = record { faults = f.faults; starved = f.starved; quiets = omega (arith, ap (λ (d : Counts). d.quiets) f.same) }
 
--- hearing lets the counts stand
-hears_counts : (octets : List ℕ) (a b : Course) → HearsAll octets a b → NoneFell a b
-hears_counts octets a b h = same_counts a b (ap (λ (d : Course). d.faults) h.after) (ap (λ (d : Course). d.starved) h.after) (ap (λ (d : Course). d.quiets) h.after)
+-- a failure that isn't want of memory is a fault
+failed_caused : (end : HttpEnd) (b c : Counts) → CountsFailure b c → IsFailure end b.starved c.starved → (end ≢ End) × IsCaused end b c
+failed_caused End b c f is = absurd is
+failed_caused Fault b c f is = (λ e. cc, elim f.cause [ inl rose ↦ rose | inr starved ↦ absurd (is starved) ])
+failed_caused Quiet b c f is = absurd is
+failed_caused Memory b c f is = (λ e. cc, is)
 
--- a cause after hearing is a cause of the whole
-pub heard_cause : (end : HttpEnd) (octets : List ℕ) (a b c : Course) → HearsAll octets a b → IsCaused end b c → IsCaused end a c
-heard_cause end_is.End octets a b c h r = tt
-heard_cause end_is.Fault octets a b c h r = subst (λ n. Rose n c.faults) (ap (λ (d : Course). d.faults) h.after) r
-heard_cause end_is.Quiet octets a b c h r = subst (λ n. Rose n c.quiets) (ap (λ (d : Course). d.quiets) h.after) r
-heard_cause end_is.Memory octets a b c h r = subst (λ n. Rose n c.starved) (ap (λ (d : Course). d.starved) h.after) r
+pub failure_stops : (end : HttpEnd) (b c : Course) → Fails b c → IsFailure end b.counts.starved c.counts.starved → Stops end b c
+failure_stops end b c f is =
+    let caused = failed_caused end b.counts c.counts f.counts is in record {
+      no_end = caused.0;
+      talk = ap (λ (d : Course). d.talk) f.same;
+      ended = ap (λ (d : Counts). d.ended) f.counts.same;
+      fell = fails_fell b.counts c.counts f.counts;
+      caused = caused.1;
+    }
 
-pub heard_fell : (end : HttpEnd) (octets : List ℕ) (pieces : List Piece) (a b c : Course) → HearsAll octets a b → Adds end pieces b c → NoneFell a c
-heard_fell end octets pieces a b c h s = NoneFell-trans a b c (hears_counts octets a b h) s.fell
+-- ---- what was said
+
+says_counts : (text : List ℕ) (b c : Course) → SaysAll text b c → c.counts ≡ b.counts
+says_counts text b c s = ap (λ (d : Course). d.counts) s.after
+
+-- a whole text was said
+pub says_all : (text : List ℕ) (b c : Course) → SaysAll text b c → Says End text b c
+says_all text b c s =
+    let counts = same_counts b.counts c.counts (says_counts text b c s) in record {
+      pieces = s.pieces;
+      nothing_heard = s.nothing_heard;
+      so = s.said;
+      talk = ap (λ (d : Course). d.talk) s.after;
+      ended = ap (λ (d : Counts). d.ended) (says_counts text b c s);
+      fell = none_fell b.counts c.counts counts;
+      caused = counts;
+    }
+
+-- a front of a text was said where giving it failed
+cut_short : (end : HttpEnd) (text said : List ℕ) (before after : ℕ) → IsFailure end before after → IsCutShort said text → SaysSo end text said
+cut_short End text said before after is cut = absurd is
+cut_short Fault text said before after is cut = cut
+cut_short Quiet text said before after is cut = absurd is
+cut_short Memory text said before after is cut = cut
+
+pub says_front : (end : HttpEnd) (text : List ℕ) (gone : ℕ) (b c : Course) → SaysFront text gone b c
+    → IsFailure end b.counts.starved c.counts.starved → Says end text b c
+says_front end text gone b c s is =
+    let same = says_counts (take gone text) b s.between s.front in
+    let counts = same_counts b.counts s.between.counts same in
+    let late : IsFailure end s.between.counts.starved c.counts.starved =
+    subst (λ n. IsFailure end n c.counts.starved) (sym (ap (λ (d : Counts). d.starved) same)) is in
+    let stops = failure_stops end s.between c s.fails late in
+    record {
+      pieces = s.front.pieces;
+      nothing_heard = s.front.nothing_heard;
+      so = cut_short end text (said_of s.front.pieces) b.counts.starved c.counts.starved is (gone, s.less, s.front.said);
+      talk = stops.talk ∙ ap (λ (d : Course). d.talk) s.front.after;
+      ended = stops.ended ∙ ap (λ (d : Counts). d.ended) same;
+      fell = fell_behind b.counts s.between.counts c.counts counts stops.fell;
+      caused = caused_behind end b.counts s.between.counts c.counts counts stops.caused;
+    }
+
+-- ---- the store's count of faults
+
+pub CountsFaults-nil : (count : ℕ) → CountsFaults count count []
+CountsFaults-nil count = record { counted = All-nil (IsFaultCounted count count); spared = λ all. refl; kept = omega arith }
+
+pub CountsFaults-one : (before now : ℕ) (deed : Deed) → IsFaultCounted before now deed → (IsSpared deed → now ≡ before) → before ≤ now
+    → CountsFaults before now (deed ∷ [])
+CountsFaults-one before now deed counted spared kept = record {
+  counted = All-cons (IsFaultCounted before now) deed [] counted (All-nil (IsFaultCounted before now));
+  spared = λ all. spared (All-head IsSpared deed [] all);
+  kept = kept;
+}
+
+-- ---- sessions
 
 -- no readings are added
-pub AddsAll-nil : (told : Option (List ℕ)) → AddsAll [] told told
+AddsAll-nil : (told : Option (List ℕ)) → AddsAll [] told told
 AddsAll-nil None = tt
 AddsAll-nil (Some xs) = (xs, refl, sym (append-nil xs))
 
-module _ {S : Type 0} (leads : S → List Deed → S → Type 0) (faults : S → ℕ) (store later : S) (a b c : Course) (told tells : Option (List ℕ)) (end : HttpEnd) where
-  -- an answer was said to what was heard
-  pub serves_answered : (octets : List ℕ) (readings : List ℕ) (deeds : List Deed) (answer : Answer) → HearsAll octets a b
-      → SaysAs end (reply_text answer true) b c → AddsAll readings told tells → leads store deeds later
-      → All (IsFaultCounted (faults store) (faults later)) deeds → Answers octets b.ended readings deeds answer
-      → Serves leads faults store later a c told tells end
-  serves_answered octets readings deeds answer h s clock led counted answers =
-      let said = said_some end (reply_text answer true) b c s in
-      let heard : heard_of (h.pieces ++ said.0) ≡ octets = heard_of-append h.pieces said.0 ∙ ap (λ front. front ++ heard_of said.0) h.heard ∙ ap (λ back. octets ++ back) said.1.nothing_heard ∙ append-nil octets in
-      let says : said_of (h.pieces ++ said.0) ≡ said_of said.0 = said_of-append h.pieces said.0 ∙ ap (λ front. front ++ said_of said.0) h.nothing_said in
-      record {
-        pieces = h.pieces ++ said.0;
-        readings = readings;
-        deeds = deeds;
-        talk = said.1.talk ∙ ap (λ t. with_more t said.0) (ap (λ (d : Course). d.talk) h.after) ∙ with_more-with_more a.talk h.pieces said.0;
-        clock = clock;
-        led = led;
-        faults_counted = counted;
-        session = inr (record {
+-- an answer was said to what was heard
+talks_answered : (heard : List ℕ) (ended : Bool) (a b c : Course) (readings : List ℕ) (deeds : List Deed) (answer : Answer) (end : HttpEnd)
+    → Listens heard ended a b → Answers heard ended readings deeds answer → Says end (reply_text answer true) b c → Talks a c readings deeds end
+talks_answered heard ended a b c readings deeds answer end l answers says =
+    let counts = listens_counts heard ended a b l in
+    record {
+      takes = l.takes;
+      answer = says.pieces;
+      ended = ended;
+      pieces = says.talk ∙ ap (λ (d : Course). with_more d.talk says.pieces) l.after ∙ with_more-with_more a.talk (map Heard l.takes) says.pieces;
+      nothing_heard = says.nothing_heard;
+      input_ended = says.ended ∙ ap (λ (d : Course). d.counts.ended) l.after;
+      talk = record {
+        heard = l.is_heard;
+        comes_to = inr (record {
           answer = answer;
-          answers = subst (λ octets. Answers octets c.ended readings deeds answer) (sym heard)
-              (subst (λ ended. Answers octets ended readings deeds answer) (sym said.1.ended) answers);
-          says = subst (λ octets. SaysSo end (reply_text answer true) octets) (sym says) said.2;
+          answers = subst (λ octets. Answers octets ended readings deeds answer) (sym l.joined) answers;
+          says = says.so;
         });
-      }
+      };
+      fell = fell_behind a.counts b.counts c.counts counts says.fell;
+      caused = caused_behind end a.counts b.counts c.counts counts says.caused;
+    }
+
+-- nothing was said of what was heard
+talks_silent : (heard : List ℕ) (ended : Bool) (a c : Course) (end : HttpEnd) (l : (between : Course) × Listens heard ended a between)
+    → c.talk ≡ l.0.talk → c.counts.ended ≡ l.0.counts.ended → NoneFell l.0.counts c.counts → IsCaused end l.0.counts c.counts
+    → IsSilence end heard ended → Talks a c [] [] end
+talks_silent heard ended a c end l talk input fell caused silence =
+    let counts = listens_counts heard ended a l.0 l.1 in
+    record {
+      takes = l.1.takes;
+      answer = [];
+      ended = ended;
+      pieces = talk ∙ ap (λ (d : Course). d.talk) l.1.after ∙ ap (λ pieces. with_more a.talk pieces) (sym (append-nil (map Heard l.1.takes)));
+      nothing_heard = refl;
+      input_ended = input ∙ ap (λ (d : Course). d.counts.ended) l.1.after;
+      talk = record {
+        heard = l.1.is_heard;
+        comes_to = inl (record {
+          silence = subst (λ octets. IsSilence end octets ended) (sym l.1.joined) silence;
+          no_word = refl;
+          no_reading = refl;
+          no_deed = refl;
+        });
+      };
+      fell = fell_behind a.counts l.0.counts c.counts counts fell;
+      caused = caused_behind end a.counts l.0.counts c.counts counts caused;
+    }
+
+-- a take that was quiet or failed left the rest unheard
+stopped_silence : (end : HttpEnd) (heard : List ℕ) → end ≢ End → NeedsMore heard → IsSilence end heard false
+stopped_silence End heard other more = absurd (other refl)
+stopped_silence Fault heard other more = (more, refl)
+stopped_silence Quiet heard other more = (more, refl)
+stopped_silence Memory heard other more = (more, refl)
 
 -- what a request came to is an answer to what was heard
-pub answers_request : {S : Type 0} (leads : S → List Deed → S → Type 0) (faults : S → ℕ) (store later : S) (told tells : Option (List ℕ))
-    (head : Head) (answer : Answer) (octets : List ℕ) (ended : Bool) → IsHeadHeard octets head → octets ≢ []
-    → (r : RequestComesTo leads faults store later told tells head answer) → Answers octets ended (r.now ∷ []) r.deeds answer
-answers_request leads faults store later told tells head answer octets ended stands some r = elim r.comes_to [
-  | inl came ↦ inr (inl (record { head = head; stands = stands; now = r.now; reading = refl; comes_to = came }))
-  | inr want ↦ inr (inr (record { some = some; answered = want.0; few_readings = omega arith; no_deed = want.1 }))
+request_answers : {S : Type 0} (leads : S → List Deed → S → Type 0) (faults : S → ℕ) (store later : S) (told tells : Option (List ℕ))
+    (head : Head) (answer : Answer) (heard : List ℕ) → heard ≢ [] → IsHeadHeard heard head
+    → (r : RequestComesTo leads faults store later told tells head answer) → Answers heard false (r.now ∷ []) r.deeds answer
+request_answers leads faults store later told tells head answer heard some stands r = elim r.comes_to [
+  | inl came ↦ inr (inl (record { head = head; stands = stands; at_once = refl; now = r.now; reading = refl; comes_to = came }))
+  | inr want ↦ inr (inr (record { some = some; at_once = refl; answered = want.0; few_readings = omega arith; no_deed = want.1 }))
 ]
 
--- a take that was quiet lets no count fall
-quiet_counts : (b c : Course) → IsQuiet b c → NoneFell b c
-quiet_counts b c q = record {
-  faults = omega (arith, ap (λ (d : Course). d.faults) q.same);
-  starved = omega (arith, ap (λ (d : Course). d.starved) q.same);
-  quiets = q.kept;
+-- a request was heard and answered
+pub serves_request : {S : Type 0} (leads : S → List Deed → S → Type 0) (faults : S → ℕ) (store later : S) (a b c : Course)
+    (told tells : Option (List ℕ)) (end : HttpEnd) (heard : List ℕ) (head : Head) (answer : Answer) → heard ≢ [] → Listens heard false a b
+    → IsHeadHeard heard head → RequestComesTo leads faults store later told tells head answer → Says end (reply_text answer true) b c
+    → Serves leads faults store later a c told tells end
+serves_request leads faults store later a b c told tells end heard head answer some l stands r says = record {
+  readings = r.now ∷ [];
+  deeds = r.deeds;
+  peer = talks_answered heard false a b c (r.now ∷ []) r.deeds answer end l
+      (request_answers leads faults store later told tells head answer heard some stands r) says;
+  clock = r.clock;
+  led = r.led;
+  counts = r.counts;
 }
 
--- a call that failed adds no piece
-fails_talk : (b c : Course) → Fails b c → c.talk ≡ b.talk
-fails_talk b c f = ap (λ (d : Course). d.talk) f.same
-
-stopped_talk : (end : HttpEnd) (b c : Course) → FailsAs end b c → c.talk ≡ b.talk
-stopped_talk end_is.End b c f = absurd f
-stopped_talk end_is.Fault b c f = fails_talk b c f.0
-stopped_talk end_is.Quiet b c f = ap (λ (d : Course). d.talk) f.same
-stopped_talk end_is.Memory b c f = fails_talk b c f.0
-
-stopped_silence : (end : HttpEnd) (b c : Course) (octets : List ℕ) (ended : Bool) → FailsAs end b c → HasNone (looked_at octets) → IsSilence end octets ended
-stopped_silence end_is.End b c octets ended f none = absurd f
-stopped_silence end_is.Fault b c octets ended f none = none
-stopped_silence end_is.Quiet b c octets ended f none = none
-stopped_silence end_is.Memory b c octets ended f none = none
-
-module _ {S : Type 0} (leads : S → List Deed → S → Type 0) (faults : S → ℕ) (store : S) (a c : Course) (told : Option (List ℕ)) (led : leads store [] store) where
-  -- nothing was said of what was heard
-  silent : (end : HttpEnd) (octets : List ℕ) (pieces : List Piece) → heard_of pieces ≡ octets → said_of pieces ≡ [] → c.talk ≡ with_more a.talk pieces
-      → IsSilence end octets c.ended → Serves leads faults store store a c told told end
-  silent end octets pieces heard said talk silence = record {
-    pieces = pieces;
+module _ {S : Type 0} (leads : S → List Deed → S → Type 0) (faults : S → ℕ) (store : S) (told : Option (List ℕ)) (led : leads store [] store) where
+  -- neither the clock nor the store was asked
+  serves_alone : (a c : Course) (end : HttpEnd) → Talks a c [] [] end → Serves leads faults store store a c told told end
+  serves_alone a c end talks = record {
     readings = [];
     deeds = [];
-    talk = talk;
+    peer = talks;
     clock = AddsAll-nil told;
     led = led;
-    faults_counted = All-nil (IsFaultCounted (faults store) (faults store));
-    session = inl (record {
-      silence = subst (λ octets. IsSilence end octets c.ended) (sym heard) silence;
-      no_word = said;
-      no_reading = refl;
-      no_deed = refl;
-    });
+    counts = CountsFaults-nil (faults store);
   }
 
-  pub serves_nothing : HearsAll [] a c → c.ended ≡ true → Serves leads faults store store a c told told end_is.End
-  serves_nothing h ended = silent end_is.End [] h.pieces h.heard h.nothing_said (ap (λ (d : Course). d.talk) h.after) (refl, ended)
-
-  pub serves_stopped : (end : HttpEnd) → StopsBefore end a c → Serves leads faults store store a c told told end
-  serves_stopped end s =
-      silent end s.octets s.hears.pieces s.hears.heard s.hears.nothing_said
-      (stopped_talk end s.between c s.fails ∙ ap (λ (d : Course). d.talk) s.hears.after)
-      (stopped_silence end s.between c s.octets c.ended s.fails s.none)
-
   -- what is no request is refused
-  pub serves_refused : (end : HttpEnd) (octets : List ℕ) (b : Course) → HearsAll octets a b → IsNoRequest octets b.ended
-      → SaysAs end (reply_text (BadRequest NotBuilt) true) b c → Serves leads faults store store a c told told end
-  serves_refused end octets b h refused says =
-      serves_answered leads faults store store a b c told told end octets [] [] (BadRequest NotBuilt) h says (AddsAll-nil told) led
-      (All-nil (IsFaultCounted (faults store) (faults store)))
-      (inl (record { no_request = refused; answered = refl; no_reading = refl; no_deed = refl }))
+  pub serves_refused : (a b c : Course) (end : HttpEnd) (heard : List ℕ) (ended : Bool) → heard ≢ [] → Listens heard ended a b
+      → IsNoRequest heard ended → Says end (reply_text (BadRequest NotBuilt) true) b c → Serves leads faults store store a c told told end
+  serves_refused a b c end heard ended some l refused says =
+      serves_alone a c end (talks_answered heard ended a b c [] [] (BadRequest NotBuilt) end l
+      (inl (record { some = some; no_request = refused; answered = refl; no_reading = refl; no_deed = refl })) says)
 
   -- there was no memory for what was heard
-  pub serves_lost : (end : HttpEnd) (octets : List ℕ) (b : Course) → HearsAll octets a b → octets ≢ []
-      → SaysAs end (reply_text OutOfMemory true) b c → Serves leads faults store store a c told told end
-  serves_lost end octets b h some says =
-      serves_answered leads faults store store a b c told told end octets [] [] OutOfMemory h says (AddsAll-nil told) led
-      (All-nil (IsFaultCounted (faults store) (faults store)))
-      (inr (inr (record { some = some; answered = refl; few_readings = omega arith; no_deed = refl })))
+  pub serves_lost : (a b c : Course) (end : HttpEnd) (heard : List ℕ) → heard ≢ [] → Listens heard false a b
+      → Says end (reply_text OutOfMemory true) b c → Serves leads faults store store a c told told end
+  serves_lost a b c end heard some l says =
+      serves_alone a c end (talks_answered heard false a b c [] [] OutOfMemory end l
+      (inr (inr (record { some = some; at_once = refl; answered = refl; few_readings = omega arith; no_deed = refl }))) says)
+
+  -- there was no input at all
+  pub serves_nothing : (a c : Course) → Listens [] true a c → Serves leads faults store store a c told told End
+  serves_nothing a c l =
+      serves_alone a c End (talks_silent [] true a c End (c, l) refl refl (none_fell c.counts c.counts refl) refl (refl, refl))
+
+  -- a take was quiet or failed
+  pub serves_stopped : (a b c : Course) (end : HttpEnd) (heard : List ℕ) → Listens heard false a b → NeedsMore heard → Stops end b c
+      → Serves leads faults store store a c told told end
+  serves_stopped a b c end heard l more s =
+      serves_alone a c end (talks_silent heard false a c end (b, l) s.talk s.ended s.fell s.caused (stopped_silence end heard s.no_end more))

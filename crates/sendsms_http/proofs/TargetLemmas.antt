@@ -13,7 +13,7 @@ use Rattle.http_uri.specs.Uri.{Spells, SpellsNone, uri_data, uri_path, uri_query
 use Rattle.http_uri.proofs.RunLemmas.{AllPass-at, AllPass-from, index_of_found, index_of_le, run_is}
 use Rattle.http_uri.proofs.PathLemmas.{path_byte_no_mark, query_byte_no_hash}
 use Rattle.http_uri.proofs.UriLemmas.{IsAuthority_first, cut_first}
-use Rattle.sendsms_http.specs.Asked.{query, sendsms_path, is_origin_form, sendsms_query}
+use Rattle.sendsms_http.specs.Target.{query, sendsms_path, is_origin_form, sendsms_query}
 
 -- not a `#`
 abbrev pub no_hash : ℕ → Bool

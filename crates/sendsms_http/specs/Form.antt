@@ -1,36 +1,29 @@
--- The form of a sendsms request: its variables, and what they may hold.
-use Rattle.std.specs.Prelude.{ℕ, Bool, ◌&&◌, ◌||◌, ◌==◌, nat_le, List, [], length, map, count_by, codes, bytes_eq}
+-- The form of a sendsms request: its variables, what each may hold, and the message that it asks for.
+use Rattle.std.specs.Prelude.{ℕ, Bool, false, not, ◌&&◌, ◌||◌, ◌==◌, nat_le, List, [], ◌∷◌, length, map, count_by, codes, bytes_eq, None, Result, Ok, Err, if◌then◌else◌}
 use Rattle.std.specs.List.{find, list_all}
 use Rattle.std.specs.Option.{option_map_or}
 use Rattle.std.specs.Char.{is_ascii_digit, is_ascii_alphanumeric}
 use Rattle.form_urlencoded.specs.Form.{raw_pairs, decode, space}
+use Rattle.kn_base.specs.declared.charset.Charset.TheVariants.{Utf8}
+use Rattle.sms_record.specs.declared.address.Address.TheVariants.{Number}
+use Rattle.sms_record.specs.declared.coding.Coding.TheVariants.{Seven}
+use Rattle.sms_record.specs.declared.sms.Sms.{Sms}
+use Rattle.sendsms_http.specs.declared.answer.Answer.{Answer}
+use Rattle.sendsms_http.specs.declared.answer.Answer.TheVariants.{BadRequest, Unauthorized}
+use Rattle.sendsms_http.specs.declared.answer.spot.Spot.TheVariants.{NotBuilt}
+use Rattle.sendsms_http.specs.declared.form.Form.{Form}
 use Rattle.sendsms_http.specs.declared.form.Variable.{Variable}
+use Rattle.sendsms_http.specs.declared.form.Variable.TheVariants.{Username, Password, From, To, Text}
+use Rattle.sendsms_http.specs.declared.form.pairs.Pair.{Pair}
 
--- a name and a value as the octets that they stand for: `+` is a space, an escape is its octet, any other `%` stays (URL Standard 5.1)
-abbrev pub decoded : List ℕ × List ℕ → Variable
-decoded (name, value) = record { name = decode name; value = decode value }
+-- ---- what each variable may hold
 
--- the variables of a query, in their order
-abbrev pub variables : List ℕ → List Variable
-variables query = map decoded (raw_pairs query)
+-- the name and the password of the user
+abbrev pub user_name : List ℕ
+user_name = codes "tester"
 
--- the variable has this name
-abbrev pub has_name : List ℕ → Variable → Bool
-has_name name variable = bytes_eq variable.name name
-
--- the value of the first variable of this name, or nothing where there is none
-abbrev pub value : List ℕ → List Variable → List ℕ
-value name given = option_map_or (λ variable. variable.value) (find (has_name name) given) []
-
--- the name stands exactly once
-abbrev pub is_once : List ℕ → List Variable → Bool
-is_once name given = count_by (has_name name) given == 1
-
--- the five variables stand once each, in any order, and there is no other
-abbrev pub are_the_five : List Variable → Bool
-are_the_five given =
-    (length given == 5) && is_once (codes "username") given && is_once (codes "password") given
-    && is_once (codes "from") given && is_once (codes "to") given && is_once (codes "text") given
+abbrev pub user_password : List ℕ
+user_password = codes "foobar"
 
 -- 1 to 15 decimal digits
 abbrev pub is_number : List ℕ → Bool
@@ -44,8 +37,90 @@ is_text_octet octet = is_ascii_alphanumeric octet || (octet == space)
 abbrev pub is_text : List ℕ → Bool
 is_text octets = nat_le (length octets) 160 && list_all is_text_octet octets
 
--- the five variables, with two numbers and a text
-abbrev pub is_form : List Variable → Bool
-is_form given =
-    are_the_five given && is_number (value (codes "from") given) && is_number (value (codes "to") given)
-    && is_text (value (codes "text") given)
+-- the name of a variable
+abbrev pub name_of : Variable → List ℕ
+name_of Username = codes "username"
+name_of Password = codes "password"
+name_of From = codes "from"
+name_of To = codes "to"
+name_of Text = codes "text"
+
+-- what a variable may hold
+abbrev pub may_hold : Variable → List ℕ → Bool
+may_hold Username octets = bytes_eq octets user_name
+may_hold Password octets = bytes_eq octets user_password
+may_hold From octets = is_number octets
+may_hold To octets = is_number octets
+may_hold Text octets = is_text octets
+
+-- all variables
+abbrev pub variables : List Variable
+variables = Username ∷ Password ∷ From ∷ To ∷ Text ∷ []
+
+-- ---- the variables of a query
+
+-- a name and a value as the octets that they stand for: `+` is a space, an escape is its octet, any other `%` stays (URL Standard 5.1)
+abbrev pub decoded : List ℕ × List ℕ → Pair
+decoded (name, value) = record { name = decode name; value = decode value }
+
+-- the names and values of a query, in their order
+abbrev pub pairs : List ℕ → List Pair
+pairs query = map decoded (raw_pairs query)
+
+-- the pair has the name of this variable
+abbrev pub is_of : Variable → Pair → Bool
+is_of variable pair = bytes_eq pair.name (name_of variable)
+
+-- the value of the first of a variable, or nothing where there is none
+abbrev pub value : Variable → List Pair → List ℕ
+value variable given = option_map_or (λ pair. pair.value) (find (is_of variable) given) []
+
+-- the variable holds what it may
+abbrev pub is_held : List Pair → Variable → Bool
+is_held given variable = may_hold variable (value variable given)
+
+-- the variable stands exactly once
+abbrev pub is_once : List Pair → Variable → Bool
+is_once given variable = count_by (is_of variable) given == 1
+
+-- the first name and the first password are those of the user
+abbrev pub is_authorized : List Pair → Bool
+is_authorized given = is_held given Username && is_held given Password
+
+-- all variables stand once each, in any order, no other does, and each holds what it may
+abbrev pub is_form : List Pair → Bool
+is_form given = (length given == length variables) && list_all (is_once given) variables && list_all (is_held given) variables
+
+-- what the variables of a form say
+abbrev pub form_of : List Pair → Form
+form_of given = record { sender = value From given; receiver = value To given; text = value Text given }
+
+-- The form of a query, or the answer that refuses it. The credentials count before the rest.
+abbrev pub read_form : List Pair → Result Form Answer
+read_form given =
+    if not (is_authorized given) then Err Unauthorized
+    else (if not (is_form given) then Err (BadRequest NotBuilt) else Ok (form_of given))
+
+-- ---- what a form asks for
+
+-- the one message that a form asks for at a reading of the clock: its text, from one number to another
+abbrev pub message : Form → ℕ → Sms
+message form now = record {
+  sender = Number false form.sender;
+  receiver = Number false form.receiver;
+  coding = Seven;
+  class = None;
+  udh = [];
+  body = form.text;
+  total = 1;
+  part = 1;
+  smsc = [];
+  validity = 0;
+  deferred = 0;
+  mask = 0;
+  url = [];
+  account = [];
+  service = user_name;
+  charset = Utf8;
+  time = now;
+}

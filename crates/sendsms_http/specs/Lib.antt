@@ -1,8 +1,10 @@
-pub mod Answers
-pub mod Asked
-pub mod Deeds
+pub mod Acceptor
+pub mod Answer
 pub mod Form
-pub mod Heads
-pub mod Lines
-pub mod Listening
+pub mod Head
+pub mod HeadSteps
+pub mod Reply
+pub mod Request
 pub mod Session
+pub mod SessionSteps
+pub mod Target

@@ -1,8 +1,9 @@
 //! Where messages are handed in.
 
-ghost use Rattle.std.specs.Prelude.{◌≡◌, ℕ, ◌≤◌, List, [], ◌∷◌, ◌++◌, IfOk, Err};
+ghost use Rattle.std.specs.Prelude.{◌≡◌, ◌≢◌, ℕ, ◌≤◌, List, [], ◌∷◌, ◌++◌, IfOk, Err};
 ghost use Rattle.kn_base.specs.Count.{Rose};
-ghost use Rattle.sendsms_http.specs.Deeds.{Deed, MayBeHanded, IsAccepted};
+ghost use Rattle.sendsms_http.specs.Acceptor.{Deed, MayBeHanded};
+ghost use Rattle.sendsms_http.specs.Reply.{IsAccepted};
 
 use crate::{Refusal, Reply};
 use sms_record::Sms;
@@ -22,13 +23,14 @@ pub trait Acceptor {
     ///
     /// `Accepted` where all of them are recorded. `NoRoute` where no link may carry one, `Full` where the queue has no room for
     /// them, `Memory` where there was none: then none is recorded. `Disk` where a disk call failed: then the count of faults
-    /// rose, and whether they are recorded isn't known.
+    /// rose, and whether they are recorded isn't known. With any other answer that count stands still.
     fn submit(&mut self, parts: Vec<Sms>, time: u64) -> Result<Reply, Refusal>
         requires ready { can_submit self.old }
         requires fits { MayBeHanded parts.items time }
         ensures deed { leads self.old (record { parts = parts.items; time = time; outcome = result } ∷ []) self.new }
         ensures accepted { IfOk result IsAccepted }
         ensures disk { result ≡ Err Refusal.Disk → Rose (faults self.old) (faults self.new) }
+        ensures spared { result ≢ Err Refusal.Disk → faults self.new ≡ faults self.old }
         ensures kept { faults self.old ≤ faults self.new };
 
     /// No deeds lead from a store to itself.

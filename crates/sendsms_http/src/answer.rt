@@ -1,16 +1,17 @@
-//! The answers that a requester can get.
+//! The answers that a requester can get, and what each says: one row an answer.
+
+ghost use Rattle.std.specs.Prelude.{◌≡◌, ◌≤◌, ◌+◌, [], ◌++◌, length};
+ghost use Rattle.sendsms_http.specs.Answer as spec;
+
+mod spot;
+mod write;
 
 use kn_base::Memory;
-
-/// What is wrong with a request.
-#[derive(Clone, Copy, Debug, PartialEq, Eq, Hash)]
-pub enum Spot {
-    /// The request asks for something that the gateway doesn't serve yet.
-    NotBuilt,
-}
+pub use spot::Spot;
+pub use write::write_answer;
 
 /// An answer over HTTP.
-#[derive(Clone, Copy, Debug, PartialEq, Eq, Hash)]
+#[derive(Clone, Copy, Debug, PartialEq, Eq)]
 pub enum Answer {
     /// 202: the message is stored, and a link that can take it is up.
     Accepted,
@@ -26,6 +27,54 @@ pub enum Answer {
     Unavailable,
     /// 500: there was no memory.
     OutOfMemory,
+}
+
+/// What an answer says: its code with the reason (RFC 9110 15), and its body, which is a text and the name behind it.
+#[derive(Clone, Copy)]
+pub(crate) struct Row {
+    pub(crate) status: &'static [u8],
+    pub(crate) text: &'static [u8],
+    pub(crate) name: &'static [u8],
+}
+
+impl Answer {
+    // What it says.
+    pub(crate) fn row(self) -> Row
+        ensures status { result.status.now ≡ (spec.row self).status }
+        ensures body { result.text.now ++ result.name.now ≡ (spec.row self).body }
+        ensures short_status { length result.status.now ≤ 32 }
+        ensures short_body { length result.text.now + length result.name.now ≤ 64 }
+    {
+        match self {
+            Answer::Accepted => plain(b"202 Accepted", b"0: Accepted for delivery"),
+            Answer::Queued => plain(b"202 Accepted", b"3: Queued for later delivery"),
+            Answer::BadRequest(spot) => Row {
+                status: b"400 Bad Request",
+                text: b"Bad request: ",
+                name: spot.name(),
+            },
+            Answer::Unauthorized => plain(b"403 Forbidden", b"Authorization failed for sendsms"),
+            Answer::NotRoutable => plain(b"403 Forbidden", b"Not routable. Do not try again."),
+            Answer::Unavailable => plain(
+                b"503 Service Unavailable",
+                b"Temporal failure, try again later.",
+            ),
+            Answer::OutOfMemory => plain(b"500 Internal Server Error", b"Out of memory."),
+        }
+    }
+}
+
+// A row whose body ends with no name.
+fn plain(status: &'static [u8], text: &'static [u8]) -> Row
+    ensures status { result.status.now ≡ status.now }
+    ensures text { result.text.now ≡ text.now }
+    ensures no_name { result.name.now ≡ [] }
+{
+    Row {
+        status,
+        text,
+        name: b"",
+    }
 }
 
 impl From<Memory> for Answer {

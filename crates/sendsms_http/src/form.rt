@@ -1,14 +1,17 @@
-//! The form of a sendsms request: its variables, and what they may hold.
+//! The form of a sendsms request: its variables, what each may hold, and the message that it asks for.
 
-ghost use Rattle.std.specs.Prelude.{◌≡◌, IfOk, map, option_copied};
+ghost use Rattle.std.specs.Prelude.{◌≡◌, ◌⊎◌, false, IfOk, IfErr, option_copied};
 ghost use Rattle.std.specs.Char.{is_ascii_digit};
 ghost use Rattle.std.specs.List.{find, list_all};
-ghost use Rattle.form_urlencoded.specs.Form.{decode, plus_to_space};
 ghost use Rattle.sendsms_http.specs.Form as spec;
 
-use form_urlencoded::raw_pairs;
-use kn_base::{Items, Memory, Octets};
-use percent_encoding::percent_decode;
+mod pairs;
+
+use crate::credentials::{PASSWORD, USER_NAME};
+use crate::{Answer, Spot};
+use kn_base::{Charset, Memory, Octets};
+use pairs::{Pair, read_pairs};
+use sms_record::{Address, Coding, Sms};
 use std::alloc::Global;
 
 /// The most digits of a number.
@@ -17,93 +20,191 @@ const MAX_DIGITS: usize = 15;
 /// The most characters of a text.
 const MAX_TEXT: usize = 160;
 
-/// A name and a value, as the octets that they stand for.
-#[derive(Debug, Drop)]
-pub(crate) struct Variable {
-    pub(crate) name: Octets,
-    pub(crate) value: Octets,
+/// The variables of a sendsms request, in the order of docs/FORMATS.md.
+#[derive(Clone, Copy)]
+pub(crate) enum Variable {
+    Username,
+    Password,
+    From,
+    To,
+    Text,
 }
 
-// The variables of a query, in their order.
-pub(crate) fn read_variables(alloc: Global, query: &[u8]) -> Result<Items<Variable>, Memory>
-    ensures { IfOk result (λ given. given ≡ spec.variables query.now) }
-{
-    let mut variables = Items::new(alloc);
-    for (name, value) in raw_pairs(query) {
-        variables.push(read_variable(alloc, name, value)?)?;
+const VARIABLES: [Variable; 5] = [
+    Variable::Username,
+    Variable::Password,
+    Variable::From,
+    Variable::To,
+    Variable::Text,
+];
+
+impl Variable {
+    // The name that it stands under.
+    fn name(self) -> &'static [u8]
+        ensures { result.now ≡ spec.name_of self }
+    {
+        match self {
+            Variable::Username => b"username",
+            Variable::Password => b"password",
+            Variable::From => b"from",
+            Variable::To => b"to",
+            Variable::Text => b"text",
+        }
     }
-    Ok(variables)
+
+    // Whether it may hold these octets.
+    fn may_hold(self, octets: &[u8]) -> bool
+        ensures { result ≡ spec.may_hold self octets.now }
+    {
+        match self {
+            Variable::Username => octets == USER_NAME,
+            Variable::Password => octets == PASSWORD,
+            Variable::From | Variable::To => is_number(octets),
+            Variable::Text => is_text(octets),
+        }
+    }
 }
 
-fn read_variable(alloc: Global, name: &[u8], value: &[u8]) -> Result<Variable, Memory>
-    ensures { IfOk result (λ variable. variable ≡ spec.decoded (name.now, value.now)) }
+/// What a sendsms request says: a text from one number to another.
+#[derive(Drop)]
+pub(crate) struct Form {
+    /// The digits of the sender's number.
+    pub(crate) sender: Octets,
+    /// The digits of the receiver's number.
+    pub(crate) receiver: Octets,
+    pub(crate) text: Octets,
+}
+
+/// Reads the form of a query.
+///
+/// `Unauthorized` where its first `username` and `password` aren't the user's; then `BadRequest(NotBuilt)` where it isn't the five
+/// variables, once each and in their form. `OutOfMemory` may stand in the place of any answer.
+pub(crate) fn read_form(alloc: Global, query: &[u8]) -> Result<Form, Answer>
+    ensures form { IfOk result (λ form. spec.read_form (spec.pairs query.now) ≡ Ok form) }
+    ensures refusal { IfErr result (λ answer. (answer ≡ Answer.OutOfMemory) ⊎ (spec.read_form (spec.pairs query.now) ≡ Err answer)) }
 {
-    Ok(Variable {
-        name: read_octets(alloc, name)?,
-        value: read_octets(alloc, value)?,
+    let pairs = read_pairs(alloc, query)?;
+    let pairs = pairs.as_slice();
+    if !is_authorized(pairs) {
+        return Err(Answer::Unauthorized);
+    }
+    if !is_form(pairs) {
+        return Err(Answer::BadRequest(Spot::NotBuilt));
+    }
+    Ok(form_of(alloc, pairs)?)
+}
+
+impl Form {
+    /// The message that the form asks for, at a reading of the clock.
+    pub(crate) fn message(self, alloc: Global, now: u64) -> Result<Sms, Memory>
+        ensures { IfOk result (λ sms. sms ≡ spec.message self now) }
+    {
+        Ok(Sms {
+            sender: number(self.sender),
+            receiver: number(self.receiver),
+            coding: Coding::Seven,
+            class: None,
+            udh: Octets::new(alloc),
+            body: self.text,
+            total: 1,
+            part: 1,
+            smsc: Octets::new(alloc),
+            validity: 0,
+            deferred: 0,
+            mask: 0,
+            url: Octets::new(alloc),
+            account: Octets::new(alloc),
+            service: Octets::from_slice(alloc, USER_NAME)?,
+            charset: Charset::Utf8,
+            time: now,
+        })
+    }
+}
+
+// A number without a `+`.
+fn number(digits: Octets) -> Address
+    ensures { result ≡ Address.Number false digits }
+{
+    Address::Number {
+        plus: false,
+        digits,
+    }
+}
+
+// What the variables of a form say.
+fn form_of(alloc: Global, pairs: &[Pair]) -> Result<Form, Memory>
+    ensures { IfOk result (λ form. form ≡ spec.form_of pairs.now) }
+{
+    Ok(Form {
+        sender: Octets::from_slice(alloc, value(pairs, Variable::From))?,
+        receiver: Octets::from_slice(alloc, value(pairs, Variable::To))?,
+        text: Octets::from_slice(alloc, value(pairs, Variable::Text))?,
     })
 }
 
-// The octets that an encoded name or value stands for.
-fn read_octets(alloc: Global, encoded: &[u8]) -> Result<Octets, Memory>
-    ensures { IfOk result (λ octets. octets ≡ decode encoded.now) }
+// Whether the first name and the first password are those of the user.
+fn is_authorized(pairs: &[Pair]) -> bool
+    ensures { result ≡ spec.is_authorized pairs.now }
 {
-    let spaced = with_spaces(alloc, encoded)?;
-    let mut octets = Vec::new(alloc);
-    percent_decode(spaced.as_slice()).append_to(&mut octets)?;
-    Ok(Octets::from_vec(octets))
+    is_held(pairs, Variable::Username) && is_held(pairs, Variable::Password)
 }
 
-// The octets, with a space for each `+`.
-fn with_spaces(alloc: Global, encoded: &[u8]) -> Result<Vec<u8>, Memory>
-    ensures { IfOk result (λ octets. octets.items ≡ map plus_to_space encoded.now) }
+// Whether all variables stand once each, no other does, and each holds what it may.
+fn is_form(pairs: &[Pair]) -> bool
+    ensures { result ≡ spec.is_form pairs.now }
 {
-    let spaced = encoded
+    pairs.len() == VARIABLES.len() && are_once(pairs) && are_held(pairs)
+}
+
+// Whether each variable stands exactly once.
+fn are_once(pairs: &[Pair]) -> bool
+    ensures { result ≡ list_all (spec.is_once pairs.now) spec.variables }
+{
+    VARIABLES.iter().all(|&variable| is_once(pairs, variable))
+}
+
+// Whether each variable holds what it may.
+fn are_held(pairs: &[Pair]) -> bool
+    ensures { result ≡ list_all (spec.is_held pairs.now) spec.variables }
+{
+    VARIABLES.iter().all(|&variable| is_held(pairs, variable))
+}
+
+// Whether a variable holds what it may.
+fn is_held(pairs: &[Pair], variable: Variable) -> bool
+    ensures { result ≡ spec.is_held pairs.now variable }
+{
+    variable.may_hold(value(pairs, variable))
+}
+
+// Whether a variable stands exactly once.
+fn is_once(pairs: &[Pair], variable: Variable) -> bool
+    ensures { result ≡ spec.is_once pairs.now variable }
+{
+    let name = variable.name();
+    let times = pairs
         .iter()
-        .map(|&octet| if octet == b'+' { b' ' } else { octet });
-    Ok(spaced.collect(alloc)?)
-}
-
-// The value of the first variable of a name, empty where there is none.
-pub(crate) fn value<'a>(variables: &'a [Variable], name: &[u8]) -> &'a [u8]
-    ensures { result.now ≡ spec.value name.now variables.now }
-{
-    match first(variables, name) {
-        Some(variable) => variable.value.as_slice(),
-        None => &[],
-    }
-}
-
-// The first variable of a name.
-fn first<'a>(variables: &'a [Variable], name: &[u8]) -> Option<&'a Variable>
-    ensures { option_copied result ≡ find (spec.has_name name.now) variables.now }
-{
-    variables
-        .iter()
-        .find(|variable| variable.name.as_slice() == name)
-}
-
-// Whether a name stands exactly once.
-fn is_once(variables: &[Variable], name: &[u8]) -> bool
-    ensures { result ≡ spec.is_once name.now variables.now }
-{
-    let times = variables
-        .iter()
-        .filter(|variable| variable.name.as_slice() == name)
+        .filter(|pair| pair.name.as_slice() == name)
         .count();
     times == 1
 }
 
-// Whether the five variables stand once each, and no other.
-fn are_the_five(variables: &[Variable]) -> bool
-    ensures { result ≡ spec.are_the_five variables.now }
+// The value of the first of a variable, empty where there is none.
+fn value(pairs: &[Pair], variable: Variable) -> &[u8]
+    ensures { result.now ≡ spec.value variable pairs.now }
 {
-    variables.len() == 5
-        && is_once(variables, b"username")
-        && is_once(variables, b"password")
-        && is_once(variables, b"from")
-        && is_once(variables, b"to")
-        && is_once(variables, b"text")
+    match first(pairs, variable) {
+        Some(pair) => pair.value.as_slice(),
+        None => &[],
+    }
+}
+
+// The first of a variable.
+fn first(pairs: &[Pair], variable: Variable) -> Option<&Pair>
+    ensures { option_copied result ≡ find (spec.is_of variable) pairs.now }
+{
+    let name = variable.name();
+    pairs.iter().find(|pair| pair.name.as_slice() == name)
 }
 
 // Whether the octets are 1 to 15 decimal digits.
@@ -132,14 +233,4 @@ fn are_text_octets(octets: &[u8]) -> bool
     octets
         .iter()
         .all(|&octet| octet.is_ascii_alphanumeric() || octet == b' ')
-}
-
-// Whether the query is the five variables, with two numbers and a text.
-pub(crate) fn is_form(variables: &[Variable]) -> bool
-    ensures { result ≡ spec.is_form variables.now }
-{
-    are_the_five(variables)
-        && is_number(value(variables, b"from"))
-        && is_number(value(variables, b"to"))
-        && is_text(value(variables, b"text"))
 }

@@ -1,9 +1,14 @@
 //! The head of a request (RFC 9112 2), as far as it is looked at.
 
+mod fields;
+mod lines;
+mod read;
+
 use kn_base::Octets;
+pub use read::{HEAD_LIMIT, HeadRead, LINE_LIMIT, read_head};
 
 /// What a request's head says.
-#[derive(Debug, Drop)]
+#[derive(Drop)]
 pub struct Head {
     /// Whether the method is GET.
     pub get: bool,

@@ -11,27 +11,19 @@
 
 mod acceptor;
 mod answer;
-mod asking;
 mod credentials;
-mod ending;
 mod form;
 mod head;
-mod lines;
-mod listening;
-mod reading;
+mod http_end;
 mod reply;
-mod serving;
+mod request;
+mod session;
 mod target;
-#[cfg(test)]
-mod tests;
-mod writing;
 
 pub use acceptor::Acceptor;
-pub use answer::{Answer, Spot};
-pub use asking::asked;
-pub use ending::HttpEnd;
-pub use head::Head;
-pub use reading::{HEAD_LIMIT, HeadRead, LINE_LIMIT, read_head};
-pub use reply::{Refusal, Reply};
-pub use serving::serve_http;
-pub use writing::{answer_of, write_answer};
+pub use answer::{Answer, Spot, write_answer};
+pub use head::{HEAD_LIMIT, Head, HeadRead, LINE_LIMIT, read_head};
+pub use http_end::HttpEnd;
+pub use reply::{Refusal, Reply, answer_of};
+pub use request::asked;
+pub use session::serve_http;

@@ -5,7 +5,7 @@ ghost use Rattle.std.specs.List.{list_all};
 ghost use Rattle.http_uri.specs.ByteClasses.{slash, hash_sign};
 ghost use Rattle.http_uri.specs.Grammar.{path_of, query_of};
 ghost use Rattle.http_uri.specs.Uri.{uri_path, uri_query};
-ghost use Rattle.sendsms_http.specs.Asked as spec;
+ghost use Rattle.sendsms_http.specs.Target as spec;
 
 use http_uri::{Uri, UriError};
 use kn_base::{Memory, Octets};

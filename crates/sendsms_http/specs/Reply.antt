@@ -1,0 +1,27 @@
+-- What a store's outcome says over HTTP.
+use Rattle.std.specs.Prelude.{Bool, true, false, ⊤, Result, Ok, Err}
+use Rattle.sendsms_http.specs.declared.answer.Answer.{Answer}
+use Rattle.sendsms_http.specs.declared.answer.Answer.TheVariants as answer_is
+use Rattle.sendsms_http.specs.declared.reply.Reply.{Reply}
+use Rattle.sendsms_http.specs.declared.reply.Reply.TheVariants.{Accepted, Noted}
+use Rattle.sendsms_http.specs.declared.reply.Refusal.{Refusal}
+use Rattle.sendsms_http.specs.declared.reply.Refusal.TheVariants.{NoRoute, Full, Disk, Memory}
+
+-- the reply says that messages were accepted
+abbrev pub IsAccepted : Reply → Type 0
+IsAccepted (Accepted first count queued) = ⊤
+IsAccepted (Noted matched) = ⊥
+
+-- the answer where messages were accepted, by whether they have to wait for a link
+abbrev pub accepted_answer : Bool → Answer
+accepted_answer true = answer_is.Queued
+accepted_answer false = answer_is.Accepted
+
+-- The answer to a request whose messages a store answered so. A store that was handed messages answers no Noted.
+abbrev pub answer_of : Result Reply Refusal → Answer
+answer_of (Ok (Accepted first count queued)) = accepted_answer queued
+answer_of (Ok (Noted matched)) = answer_is.Unavailable
+answer_of (Err (NoRoute part)) = answer_is.NotRoutable
+answer_of (Err (Full held limit)) = answer_is.Unavailable
+answer_of (Err Disk) = answer_is.Unavailable
+answer_of (Err Memory) = answer_is.OutOfMemory
