@@ -4,13 +4,13 @@ use Rattle.std.proofs.lemmas.Bool.{false≢true}
 use Rattle.std.proofs.lemmas.List.{append-nil}
 use Rattle.std.proofs.lemmas.List.Elements.{All-nil, All-cons, All-head, All-tail}
 use Rattle.kn_base.specs.Count.{Rose}
-use Rattle.sendsms_http.specs.Deeds.{Deed}
+use Rattle.sendsms_http.specs.Acceptor.{Deed, IsSpared}
 use Rattle.sendsms_http.specs.declared.reply.Refusal.{Refusal}
 use Rattle.sendsms_http.specs.declared.reply.Refusal.TheVariants.{NoRoute, Full, Disk, Memory}
 use Rattle.sendsms_http.specs.declared.reply.Reply.{Reply}
 use Rattle.store_journal.specs.Disk.{Areas}
 use Rattle.boxes_main.specs.Accepts.{Accept}
-use Rattle.boxes_main.specs.Deeds.{Does, Leads, IsSpared, IsReason, AreReasoned, CountsFault, is_by_disk, entries_of, done_of}
+use Rattle.boxes_main.specs.Deeds.{Does, Leads, IsReason, AreReasoned, CountsFault, is_by_disk, entries_of, done_of}
 use Rattle.boxes_main.specs.Store.{IsStore, disk_in, is_store_broken}
 use Rattle.boxes_main.specs.declared.store.Store.{Store}
 

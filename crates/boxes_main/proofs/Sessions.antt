@@ -4,17 +4,17 @@ use Rattle.std.specs.Prelude.{IfSome, option_map}
 use Rattle.std.specs.Bool.{OnTrue}
 use Rattle.kn_base.specs.Count.{Rose}
 use Rattle.kn_base.specs.Course.{Course}
-use Rattle.sendsms_http.specs.Deeds.{Deed}
-use Rattle.sendsms_http.specs.Session.{AddsAll}
-use Rattle.sendsms_http.specs.declared.ending.HttpEnd.{HttpEnd}
+use Rattle.sendsms_http.specs.Acceptor.{Deed}
+use Rattle.sendsms_http.specs.Session.{AddsAll, Talks}
+use Rattle.sendsms_http.specs.declared.http_end.HttpEnd.{HttpEnd}
 use Rattle.store_journal.specs.Area.{stands}
 use Rattle.store_journal.specs.Disk.{Areas}
 use Rattle.boxes_main.specs.Accepts.{Accept, StandsFor}
 use Rattle.boxes_main.specs.Deeds.{Leads, done_of}
-use Rattle.boxes_main.specs.Door.{Talks, Commits, IsSession, IsServed, fault_by}
+use Rattle.boxes_main.specs.Door.{Commits, IsSession, IsServed, fault_by}
 use Rattle.boxes_main.specs.DoorSteps.{ServesOne}
 use Rattle.boxes_main.specs.Failure.{status_of}
-use Rattle.boxes_main.specs.House.{Rooms, Stock, IsNewClock, IsToldWord}
+use Rattle.boxes_main.specs.House.{Rooms, Stock, IsToldWord}
 use Rattle.boxes_main.specs.Store.{IsStore, IsOpened, disk_in, is_store_broken}
 use Rattle.boxes_main.specs.Worker.{Worker}
 use Rattle.boxes_main.specs.declared.command_end.Role.TheVariants as role_is
@@ -26,7 +26,7 @@ use Rattle.boxes_main.proofs.Commits.{reasoned, spared, unfailed, gained, broke}
 use Rattle.boxes_main.proofs.Opening.{told_weaker}
 
 -- a clock that wasn't read before was read so and no more
-new_readings : (readings : List ℕ) (old new : Option (List ℕ)) → IsNewClock old → AddsAll readings old new → IfSome new (λ all. all ≡ readings)
+new_readings : (readings : List ℕ) (old new : Option (List ℕ)) → IfSome old (λ so_far. so_far ≡ []) → AddsAll readings old new → IfSome new (λ all. all ≡ readings)
 new_readings readings old None none adds = tt
 new_readings readings (Some old) (Some all) none adds = let was : old ≡ adds.0 = cc in let more : all ≡ adds.0 ++ readings = adds.2 in cc
 new_readings readings None (Some all) none adds = absurd cc
@@ -76,7 +76,7 @@ module _
   pub serves_by : mid ≡ old → new ≡ record mid { visitor = peer } → between ≡ before → after ≡ between
       → (status : ℕ) (failure : Option Failure) → status ≡ status_of failure → failure ≡ option_map Session (fault_by (is_store_broken later) end)
       → workers ≡ record { role = role_is.Http; clock = Some clock_later; ends = ended_as.Http end ∷ [] } ∷ []
-      → IsNewClock (readings_of clock) → AddsAll readings (readings_of clock) (readings_of clock_later)
+      → IfSome (readings_of clock) (λ so_far. so_far ≡ []) → AddsAll readings (readings_of clock) (readings_of clock_later)
       → Talks (course mid.visitor) (course peer) readings deeds end → Leads tells contents faults store deeds later → disk ≡ disk_in later
       → ((b : ℕ) (all : List Accept) → IsStore tells contents later b all → OnTrue tells (StandsFor (stands (contents disk)) b all))
       → ServesOne course files calls shelf_faults tells contents faults readings_of old new before after store status failure (Some disk) workers

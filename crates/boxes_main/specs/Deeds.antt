@@ -2,7 +2,7 @@
 use Rattle.std.specs.Prelude.{◌≡◌, ◌≢◌, ℕ, ◌+◌, ◌<◌, ◌≤◌, Bool, true, false, List, [], ◌∷◌, ◌++◌, All, Result, Ok, Err, is_ok, length, min, if◌then◌else◌, refl}
 use Rattle.std.proofs.Common.{subst, sym}
 use Rattle.kn_base.specs.Count.{Rose, last_count}
-use Rattle.sendsms_http.specs.Deeds.{Deed}
+use Rattle.sendsms_http.specs.Acceptor.{Deed}
 use Rattle.sendsms_http.specs.declared.reply.Refusal.{Refusal}
 use Rattle.sendsms_http.specs.declared.reply.Refusal.TheVariants.{NoRoute, Full, Disk, Memory}
 use Rattle.sendsms_http.specs.declared.reply.Reply.{Reply}
@@ -23,10 +23,6 @@ is_disk Memory = false
 abbrev pub is_by_disk : {T : Type 0} → Result T Refusal → Bool
 is_by_disk (Ok x) = false
 is_by_disk (Err refusal) = is_disk refusal
-
--- the deed wasn't refused by a fault of the disk
-abbrev pub IsSpared : Deed → Type 0
-IsSpared deed = deed.outcome ≢ Err Disk
 
 -- What an outcome says of a queue in which so many messages wait and to which so many were handed in. There is room for them:
 -- the outcome is the number of the first, for no link is up; or the disk failed, or memory was wanting. Or there is none.

@@ -1,19 +1,17 @@
 -- What the command `door` comes to.
 use Rattle.std.specs.Prelude.{◌≡◌, ◌≢◌, ℕ, Bool, true, false, List, [], ◌∷◌, ◌++◌, All, Option, Some, None, IfSome, IsSomeAnd, MatchOption}
 use Rattle.std.specs.Bool.{OnTrue}
-use Rattle.kn_base.specs.Count.{Rose}
-use Rattle.kn_base.specs.Course.{Course, with_more}
-use Rattle.kn_base.specs.Talk.{said_of, heard_of}
-use Rattle.kn_base.specs.declared.piece.Piece.{Piece}
-use Rattle.sendsms_http.specs.Deeds.{Deed}
-use Rattle.sendsms_http.specs.Session.{HttpTalk, IsCaused}
-use Rattle.sendsms_http.specs.declared.ending.HttpEnd.{HttpEnd}
-use Rattle.sendsms_http.specs.declared.ending.HttpEnd.TheVariants as end_is
+use Rattle.kn_base.specs.Count.{Rose, next_count}
+use Rattle.kn_base.specs.Course.{Course}
+use Rattle.sendsms_http.specs.Acceptor.{Deed, IsSpared}
+use Rattle.sendsms_http.specs.Session.{Talks}
+use Rattle.sendsms_http.specs.declared.http_end.HttpEnd.{HttpEnd}
+use Rattle.sendsms_http.specs.declared.http_end.HttpEnd.TheVariants as end_is
 use Rattle.store_journal.specs.Area.{stands, unborn}
 use Rattle.store_journal.specs.Disk.{Areas}
 use Rattle.boxes_main.specs.Accepts.{Accept, IsEntry, StandsFor}
 use Rattle.boxes_main.specs.Configuration.{HasText, IsRefused}
-use Rattle.boxes_main.specs.Deeds.{done_of, IsSpared, AreReasoned}
+use Rattle.boxes_main.specs.Deeds.{done_of, AreReasoned}
 use Rattle.boxes_main.specs.House.{IsToldWord}
 use Rattle.boxes_main.specs.Store.{IsUnopened}
 use Rattle.boxes_main.specs.Worker.{Worker, IsHttpWorker}
@@ -25,15 +23,19 @@ use Rattle.boxes_main.specs.declared.session.SessionFault.TheVariants.{Disk, Con
 use Rattle.boxes_main.specs.declared.store.StoreFault.TheVariants as store_is
 
 module _ {S : Type 0} (files : S → Option (List (List ℕ × List ℕ))) (calls faults : S → ℕ) where
-  -- the shelf was asked for one file, and the one that the words name has the text of the configuration
-  abbrev pub IsConfigured : Option (List ℕ) → S → S → Type 0
-  IsConfigured name old new = IsSomeAnd name (λ name. HasText (files old) name BASE.now)
+  -- the shelf was asked once for the file that the words name, and something holds of its name
+  abbrev pub AsksFor : Option (List ℕ) → S → S → (List ℕ → Type 0) → Type 0
+  AsksFor name old new Holds = (calls new ≡ next_count (calls old)) × IsSomeAnd name Holds
 
-  -- what the shelf was asked, by what went wrong: nothing where the words name no configuration, and else the one file that
-  -- they name, once
+  -- the shelf was asked once, and the file that the words name has the text of the configuration
+  abbrev pub IsConfigured : Option (List ℕ) → S → S → Type 0
+  IsConfigured name old new = AsksFor name old new (λ name. HasText (files old) name BASE.now)
+
+  -- what the shelf was asked, by what went wrong: nothing where the words name no configuration, and else for the file that they
+  -- name, once
   abbrev pub Asks : Option (List ℕ) → S → S → Option Failure → Type 0
   Asks name old new (Some Usage) = (name ≡ None) × (new ≡ old)
-  Asks name old new (Some (Configuration fault)) = IsSomeAnd name (λ name. IsRefused (files old) name BASE.now (faults old) (faults new) fault)
+  Asks name old new (Some (Configuration fault)) = AsksFor name old new (λ name. IsRefused (files old) name BASE.now (faults old) (faults new) fault)
   Asks name old new (Some (Store fault)) = IsConfigured name old new
   Asks name old new (Some (Session fault)) = IsConfigured name old new
   Asks name old new None = IsConfigured name old new
@@ -45,14 +47,6 @@ fault_by false end_is.End = None
 fault_by false end_is.Fault = Some Connection
 fault_by false end_is.Quiet = Some Connection
 fault_by false end_is.Memory = Some Memory
-
--- What was heard and said on the connection: one talk, with the readings and the deeds that it took, and the end's cause in a
--- count.
-pub record Talks (old new : Course) (readings : List ℕ) (deeds : List Deed) (end : HttpEnd) : Type 0 where
-  pub pieces : List Piece
-  pub more : new.talk ≡ with_more old.talk pieces
-  pub talk : HttpTalk (heard_of pieces) (said_of pieces) new.ended readings deeds end
-  pub caused : IsCaused end old new
 
 -- No session was served: nothing was said, and no worker left anything.
 pub record IsUnserved {V C : Type 0} (old new : V) (workers : List (Worker C)) : Type 0 where

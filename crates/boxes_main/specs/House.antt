@@ -1,7 +1,7 @@
 -- What a house shows of itself, and what it hands out.
-use Rattle.std.specs.Prelude.{◌≡◌, ℕ, ◌+◌, min, Bool, List, [], Option, Some, None, IfSome}
+use Rattle.std.specs.Prelude.{◌≡◌, ℕ, Bool, List, [], Option, Some, None, IfSome}
 use Rattle.std.specs.Bool.{OnTrue}
-use Rattle.kn_base.specs.Count.{last_count}
+use Rattle.kn_base.specs.Count.{next_count}
 use Rattle.store_journal.specs.Disk.{Areas}
 
 -- what a house lends: the visitor on standard input and output, the files, and standard error
@@ -19,7 +19,7 @@ pub record Stock : Type 0 where
 
 -- the stock where one disk more was made
 abbrev pub MakesOne : Stock → Stock → Type 0
-MakesOne old new = new ≡ record old { disks = new.disks; made = min (old.made + 1) last_count }
+MakesOne old new = new ≡ record old { disks = new.disks; made = next_count old.made }
 
 -- the stock of a house, by whether a disk of it is there: one was made, or none
 abbrev pub MakesFor : {D : Type 0} → Option D → Stock → Stock → Type 0
@@ -32,9 +32,10 @@ pub record IsNewDisk (tells : Bool) (contents : Areas) (calls faults : ℕ) (sta
   pub no_calls : calls ≡ 0
   pub no_faults : faults ≡ 0
 
--- where its readings are told, the clock has none yet
-abbrev pub IsNewClock : Option (List ℕ) → Type 0
-IsNewClock readings = IfSome readings (λ so_far. so_far ≡ [])
+-- A clock that wasn't read yet: where its readings are told, it has none.
+pub record IsNewClock (readings : Option (List ℕ)) (latest : ℕ) : Type 0 where
+  pub unread : IfSome readings (λ so_far. so_far ≡ [])
+  pub no_latest : latest ≡ 0
 
 -- a number is the one that was told, where one was
 abbrev pub IsToldWord : Option ℕ → ℕ → Type 0

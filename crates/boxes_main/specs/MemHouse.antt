@@ -1,5 +1,6 @@
 -- What a house in memory shows.
 use Rattle.std.specs.Prelude.{◌≡◌, ℕ, List, [], ◌∷◌, Some}
+use Rattle.kn_base.specs.MemClock.{answers_of}
 use Rattle.kn_base.specs.declared.mem_clock.MemClock.{MemClock}
 use Rattle.kn_base.specs.declared.mem_peer.MemPeer.{MemPeer}
 use Rattle.kn_base.specs.declared.mem_shelf.MemShelf.{MemShelf}
@@ -19,6 +20,11 @@ mem_stock h = record { disks = λ name. areas_in (disk_under name h.disks.items)
 -- the clocks that it hasn't handed out
 abbrev pub clocks_of : MemHouse → List MemClock
 clocks_of h = h.clocks.items
+
+-- the answers of the first of some clocks, and none where there is none
+abbrev pub next_answers : List MemClock → List ℕ
+next_answers [] = []
+next_answers (clock ∷ clocks) = answers_of clock
 
 -- the disks that it hasn't handed out, by their names
 abbrev pub disks_of : MemHouse → List (List ℕ × MemDisk)

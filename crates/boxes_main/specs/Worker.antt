@@ -1,6 +1,6 @@
 -- What a worker leaves, as far as a contract reads it.
 use Rattle.std.specs.Prelude.{◌≡◌, ℕ, List, [], ◌∷◌, Option, IfSome, IsSomeAnd}
-use Rattle.sendsms_http.specs.declared.ending.HttpEnd.{HttpEnd}
+use Rattle.sendsms_http.specs.declared.http_end.HttpEnd.{HttpEnd}
 use Rattle.boxes_main.specs.declared.command_end.Role.{Role}
 use Rattle.boxes_main.specs.declared.command_end.Role.TheVariants as role_is
 use Rattle.boxes_main.specs.declared.command_end.SessionEnd.{SessionEnd}

@@ -1,6 +1,7 @@
 //! The one configuration that is taken for now.
 
 ghost use Rattle.std.specs.Prelude.{◌≡◌, OnOk, IfErr};
+ghost use Rattle.kn_base.specs.Count.{next_count};
 ghost use Rattle.boxes_main.specs.Configuration.{HasText, IsRefused};
 
 use kn_base::{Shelf, ShelfFault};
@@ -46,6 +47,7 @@ pub fn read_configuration<S: Shelf>(
     shelf: &mut S,
     name: &[u8],
 ) -> Result<(), ConfigurationFault>
+    ensures asked { S.calls shelf.new ≡ next_count (S.calls shelf.old) }
     ensures taken { OnOk result (HasText (S.files shelf.old) name.now BASE.now) }
     ensures refused { IfErr result (IsRefused (S.files shelf.old) name.now BASE.now (S.faults shelf.old) (S.faults shelf.new)) }
 {

@@ -61,7 +61,7 @@ pub trait House {
     fn clock(&mut self) -> Self::C
         ensures rooms { rooms self.new ≡ rooms self.old }
         ensures stock { stock self.new ≡ stock self.old }
-        ensures clock { IsNewClock (Self.C.readings result) };
+        ensures clock { IsNewClock (Self.C.readings result) (Self.C.latest result) };
 
     /// The birth of a store that isn't born yet.
     fn word(&mut self) -> u64

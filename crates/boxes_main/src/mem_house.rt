@@ -1,6 +1,6 @@
 //! A house in memory, whose contents stand beforehand.
 
-ghost use Rattle.std.specs.Prelude.{◌≡◌, true, Some, IfOk, OnOk, OnErr};
+ghost use Rattle.std.specs.Prelude.{◌≡◌, true, Some, drop, IfOk, OnOk, OnErr};
 ghost use Rattle.boxes_main.specs.Disks.{disk_under, without, areas_in, failing_in};
 ghost use Rattle.boxes_main.specs.House.{MakesOne, IsNewDisk, IsNewClock, IsToldWord};
 ghost use Rattle.store_journal.specs.MemDisk.{mem_areas, mem_calls, mem_faults, mem_failing};
@@ -107,8 +107,8 @@ impl House for MemHouse {
     type Er = MemPeer;
 
     ghost use Rattle.std.specs.Prelude.{refl};
-    ghost use Rattle.kn_base.specs.MemClock.{readings_of};
-    ghost use Rattle.boxes_main.specs.MemHouse.{mem_rooms, mem_stock, clocks_of, disks_of};
+    ghost use Rattle.kn_base.specs.MemClock.{answers_of, readings_of, latest_of};
+    ghost use Rattle.boxes_main.specs.MemHouse.{mem_rooms, mem_stock, clocks_of, disks_of, next_answers};
 
     ghost rooms = { mem_rooms };
 
@@ -146,10 +146,14 @@ impl House for MemHouse {
         Ok(new_disk(self.alloc, take_under(&mut self.disks, name)))
     }
 
+    /// The first clock of the list, and one without answers where it is used up.
     fn clock(&mut self) -> MemClock
         ensures rooms { mem_rooms self.new ≡ mem_rooms self.old }
         ensures stock { mem_stock self.new ≡ mem_stock self.old }
-        ensures clock { IsNewClock (readings_of result) }
+        ensures clock { IsNewClock (readings_of result) (latest_of result) }
+        ensures first { answers_of result ≡ next_answers (clocks_of self.old) }
+        ensures left { clocks_of self.new ≡ drop 1 (clocks_of self.old) }
+        ensures disks { disks_of self.new ≡ disks_of self.old }
     {
         if self.clocks.is_empty() {
             MemClock::new(self.alloc, Vec::new(self.alloc))

@@ -88,7 +88,7 @@ pub(crate) fn serve<H: House>(
 ) -> Ended<H>
     requires open { IsOpen H.D.tells H.D.contents store }
     requires room { HasRoom room.ends room.workers }
-    ensures { ServesOne H.V.course H.S.files H.S.faults H.S.faults H.D.tells H.D.contents H.D.faults H.C.readings
+    ensures { ServesOne H.V.course H.S.files H.S.calls H.S.faults H.D.tells H.D.contents H.D.faults H.C.readings
         (H.rooms house.old) (H.rooms house.new) (H.stock house.old) (H.stock house.new) store
         result.status result.failure result.disk (map worker_of result.workers) }
 {

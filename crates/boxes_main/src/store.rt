@@ -3,7 +3,7 @@
 ghost use Rattle.std.specs.Prelude.{◌≡◌, ◌∷◌, [], List, ℕ, IfOk, IfErr, OnOk};
 ghost use Rattle.std.specs.Bool.{OnTrue};
 ghost use Rattle.sms_record.specs.Entry.{accept_octets};
-ghost use Rattle.sendsms_http.specs.Deeds.{MayBeHanded};
+ghost use Rattle.sendsms_http.specs.Acceptor.{MayBeHanded};
 ghost use Rattle.store_journal.specs.Area.{stands};
 ghost use Rattle.store_journal.specs.Journal.{IsJournal, IsKept, HoldsMore, IsHandedOut, left, birth_of};
 ghost use Rattle.boxes_main.specs.Accepts.{Accept, StandsFor};

@@ -40,9 +40,9 @@ fn unserved<H: House>(alloc: Global, failure: Failure, disk: Option<H::D>) -> En
 /// Takes the configuration of that name, and opens its store on a disk of the house.
 fn open_store<H: House>(alloc: Global, house: &mut H, name: &[u8]) -> Result<Opened<H>, Ended<H>>
     ensures room { IfOk result (λ opened. HasRoom opened.room.ends opened.room.workers) }
-    ensures opens { IfOk result (λ opened. Opens H.V.course H.S.files H.S.faults H.S.faults H.D.tells H.D.contents H.D.faults H.C.readings
+    ensures opens { IfOk result (λ opened. Opens H.V.course H.S.files H.S.calls H.S.faults H.D.tells H.D.contents H.D.faults H.C.readings
         (Some name.now) (H.rooms house.old) (H.rooms house.new) (H.stock house.old) (H.stock house.new) opened.store) }
-    ensures ends { IfErr result (λ ended. Ends H.V.course H.S.files H.S.faults H.S.faults H.D.tells H.D.contents H.D.faults H.C.readings
+    ensures ends { IfErr result (λ ended. Ends H.V.course H.S.files H.S.calls H.S.faults H.D.tells H.D.contents H.D.faults H.C.readings
         (Some name.now) (H.rooms house.old) (H.rooms house.new) (H.stock house.old) (H.stock house.new)
         ended.status ended.failure ended.disk (map worker_of ended.workers)) }
 {
@@ -63,7 +63,7 @@ fn open_store<H: House>(alloc: Global, house: &mut H, name: &[u8]) -> Result<Ope
 
 /// Does all that the words ask for, but for the line on standard error.
 fn run<H: House>(alloc: Global, words: &[Octets], house: &mut H) -> Ended<H>
-    ensures { Ends H.V.course H.S.files H.S.faults H.S.faults H.D.tells H.D.contents H.D.faults H.C.readings
+    ensures { Ends H.V.course H.S.files H.S.calls H.S.faults H.D.tells H.D.contents H.D.faults H.C.readings
         (configuration_of words.now) (H.rooms house.old) (H.rooms house.new) (H.stock house.old) (H.stock house.new)
         result.status result.failure result.disk (map worker_of result.workers) }
 {
@@ -85,7 +85,7 @@ pub fn door<H: House>(alloc: Global, words: &[Octets], house: &mut H) -> Ended<H
     ensures status { result.status ≡ status_of result.failure }
     ensures line { Tells result.failure (H.Er.course (H.rooms house.old).errors) (H.Er.course (H.rooms house.new).errors) }
     ensures usage { (result.failure ≡ Some Failure.Usage) ↔ (configuration_of words.now ≡ None) }
-    ensures asks { Asks H.S.files H.S.faults H.S.faults (configuration_of words.now) (H.rooms house.old).shelf (H.rooms house.new).shelf result.failure }
+    ensures asks { Asks H.S.files H.S.calls H.S.faults (configuration_of words.now) (H.rooms house.old).shelf (H.rooms house.new).shelf result.failure }
 
     // A disk is handed back exactly where one was made.
     ensures made { MakesFor result.disk (H.stock house.old) (H.stock house.new) }
