@@ -9,7 +9,7 @@ use Rattle.sendsms_http.specs.declared.reply.Refusal.{Refusal}
 use Rattle.sendsms_http.specs.declared.reply.Refusal.TheVariants.{NoRoute, Full, Disk, Memory}
 use Rattle.sendsms_http.specs.declared.reply.Reply.{Reply}
 use Rattle.store_journal.specs.Disk.{Areas}
-use Rattle.boxes_main.specs.Accepts.{Accept}
+use Rattle.sms_record.specs.declared.entry.accept.Accept.{Accept}
 use Rattle.boxes_main.specs.Deeds.{Does, Leads, IsReason, AreReasoned, CountsFault, is_by_disk, entries_of, done_of}
 use Rattle.boxes_main.specs.Store.{IsStore, disk_in, is_store_broken}
 use Rattle.boxes_main.specs.declared.store.Store.{Store}

@@ -7,14 +7,16 @@ use Rattle.kn_base.specs.Count.{last_count}
 use Rattle.store_journal.specs.Disk.{Areas}
 use Rattle.store_journal.specs.Journal.{IsJournal, HoldsSame, Hands, disk_of, birth_of, left}
 use Rattle.store_journal.specs.declared.journal.Journal.{Journal}
-use Rattle.boxes_main.specs.Accepts.{Accept, IsEntry, entry, entries, messages}
+use Rattle.sms_record.specs.declared.entry.accept.Accept.{Accept}
+use Rattle.sms_record.specs.Entry.{IsAccept, accept_octets}
+use Rattle.boxes_main.specs.Accepts.{entries, messages}
 use Rattle.boxes_main.specs.StoreSteps.{CountsIn}
 
 -- The entries so far are those in front of what is left to hand out, and their messages are counted.
 pub record HasLoaded {D : Type 0} (tells : Bool) (contents : D → Areas) (first now : Journal D) (waiting : ℕ) : Type 0 where
   pub accepts : List Accept
   pub split : left first ≡ entries accepts ++ left now
-  pub each : All IsEntry accepts
+  pub each : All IsAccept accepts
   pub counted : waiting ≡ min (messages accepts) last_count
   pub journal : IsJournal tells contents now (birth_of first) (left first)
   pub disk : disk_of now ≡ disk_of first
@@ -25,7 +27,7 @@ pub HasLoaded-nil : {D : Type 0} (tells : Bool) (contents : D → Areas) (first 
 HasLoaded-nil tells contents first is = record {
   accepts = [];
   split = refl;
-  each = All-nil IsEntry;
+  each = All-nil IsAccept;
   counted = refl;
   journal = is;
   disk = refl;
@@ -34,14 +36,14 @@ HasLoaded-nil tells contents first is = record {
 -- one more
 pub HasLoaded-more : {D : Type 0} (tells : Bool) (contents : D → Areas) (first now next : Journal D) (waiting count more : ℕ) (payload : List ℕ) (accept : Accept)
     → HasLoaded tells contents first now waiting → left now ≡ payload ∷ left next → HoldsSame tells contents now next → disk_of next ≡ disk_of now
-    → IsEntry accept → payload ≡ entry accept → count ≡ length accept.parts → more ≡ min (waiting + count) last_count
+    → IsAccept accept → payload ≡ accept_octets accept → count ≡ length accept.parts → more ≡ min (waiting + count) last_count
     → HasLoaded tells contents first next more
 HasLoaded-more tells contents first now next waiting count more payload accept h took same disk is kept counted sum = record {
   accepts = h.accepts ++ accept ∷ [];
   split = h.split ∙ ap (λ x. entries h.accepts ++ x) (took ∙ ap (λ p. p ∷ left next) kept)
-      ∙ sym (append_assoc (entries h.accepts) (entry accept ∷ []) (left next))
-      ∙ ap (λ x. x ++ left next) (sym (map-append entry h.accepts (accept ∷ [])));
-  each = All-push IsEntry h.accepts accept h.each is;
+      ∙ sym (append_assoc (entries h.accepts) (accept_octets accept ∷ []) (left next))
+      ∙ ap (λ x. x ++ left next) (sym (map-append accept_octets h.accepts (accept ∷ [])));
+  each = All-push IsAccept h.accepts accept h.each is;
   counted = omega (arith, sum, counted, h.counted, sum_by-append (λ (a : Accept). length a.parts) h.accepts (accept ∷ []));
   journal = same (birth_of first) (left first) h.journal;
   disk = disk ∙ h.disk;
@@ -49,19 +51,19 @@ HasLoaded-more tells contents first now next waiting count more payload accept h
 
 -- a payload among entries is an entry
 is_some_entry : (front : List Accept) (payload : List ℕ) (rest : List (List ℕ)) (others : List Accept) → entries front ++ payload ∷ rest ≡ entries others
-    → All IsEntry others → (accept : Accept) × IsEntry accept × (payload ≡ entry accept)
+    → All IsAccept others → (accept : Accept) × IsAccept accept × (payload ≡ accept_octets accept)
 is_some_entry [] payload rest [] same each = absurd cc
-is_some_entry [] payload rest (other ∷ others) same each = (other, All-head IsEntry other others each, cc)
+is_some_entry [] payload rest (other ∷ others) same each = (other, All-head IsAccept other others each, cc)
 is_some_entry (accept ∷ front) payload rest [] same each = absurd cc
 is_some_entry (accept ∷ front) payload rest (other ∷ others) same each =
     let tails : entries front ++ payload ∷ rest ≡ entries others = cc in
-    is_some_entry front payload rest others tails (All-tail IsEntry other others each)
+    is_some_entry front payload rest others tails (All-tail IsAccept other others each)
 
 -- where a payload is no entry, what is left to hand out is no list of entries
 pub no_entries : {D : Type 0} (tells : Bool) (contents : D → Areas) (first now next : Journal D) (waiting : ℕ) (payload : List ℕ)
     → HasLoaded tells contents first now waiting → left now ≡ payload ∷ left next
-    → ((accept : Accept) → IsEntry accept → payload ≡ entry accept → ⊥)
-    → (others : List Accept) → All IsEntry others → left first ≡ entries others → ⊥
+    → ((accept : Accept) → IsAccept accept → payload ≡ accept_octets accept → ⊥)
+    → (others : List Accept) → All IsAccept others → left first ≡ entries others → ⊥
 no_entries tells contents first now next waiting payload h took none others each same =
     let found = is_some_entry h.accepts payload (left next) others (sym (h.split ∙ ap (λ x. entries h.accepts ++ x) took) ∙ same) each in
     none found.0 found.1 found.2

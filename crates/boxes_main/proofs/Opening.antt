@@ -7,7 +7,9 @@ use Rattle.store_journal.specs.Disk.{Areas}
 use Rattle.store_journal.specs.Journal.{OpensAs, IsUntouched, disk_of, area_of, birth_of, left}
 use Rattle.store_journal.specs.declared.area.Area.{Area}
 use Rattle.store_journal.specs.declared.journal.Journal.{Journal}
-use Rattle.boxes_main.specs.Accepts.{Accept, IsEntry, entries, StandsFor, IsForeign, IsLeftAlone}
+use Rattle.sms_record.specs.declared.entry.accept.Accept.{Accept}
+use Rattle.sms_record.specs.Entry.{IsAccept}
+use Rattle.boxes_main.specs.Accepts.{entries, StandsFor, IsForeign, IsLeftAlone}
 use Rattle.boxes_main.specs.Store.{IsOpened, IsUnopened}
 use Rattle.boxes_main.specs.StoreSteps.{Loads, LoadsNone}
 use Rattle.boxes_main.specs.declared.store.Store.{Store}
@@ -49,8 +51,8 @@ stands_for (foreign stood_in at) birth now area payloads accepts same opens = ab
 
 -- an opening that found something else than entries found no store
 pub stands_foreign : (standing : Standing) (birth now : ℕ) (area : Area) (payloads : List (List ℕ))
-    → ((accepts : List Accept) → All IsEntry accepts → payloads ≡ entries accepts → ⊥) → OpensAs standing birth now area payloads → IsForeign standing
-stands_foreign unborn birth now area payloads other opens = absurd (other [] (All-nil IsEntry) opens.2)
+    → ((accepts : List Accept) → All IsAccept accepts → payloads ≡ entries accepts → ⊥) → OpensAs standing birth now area payloads → IsForeign standing
+stands_foreign unborn birth now area payloads other opens = absurd (other [] (All-nil IsAccept) opens.2)
 stands_foreign (born old stood_in stood) birth now area payloads other opens = λ accepts each same. other accepts each (opens.2 ∙ same)
 stands_foreign (foreign stood_in at) birth now area payloads other opens = tt
 

@@ -9,7 +9,8 @@ use Rattle.sendsms_http.specs.Session.{AddsAll, Talks}
 use Rattle.sendsms_http.specs.declared.http_end.HttpEnd.{HttpEnd}
 use Rattle.store_journal.specs.Area.{stands}
 use Rattle.store_journal.specs.Disk.{Areas}
-use Rattle.boxes_main.specs.Accepts.{Accept, StandsFor}
+use Rattle.sms_record.specs.declared.entry.accept.Accept.{Accept}
+use Rattle.boxes_main.specs.Accepts.{StandsFor}
 use Rattle.boxes_main.specs.Deeds.{Leads, done_of}
 use Rattle.boxes_main.specs.Door.{Commits, IsSession, IsServed, fault_by}
 use Rattle.boxes_main.specs.DoorSteps.{ServesOne}

@@ -2,25 +2,12 @@
 use Rattle.std.specs.Prelude.{◌≡◌, ◌⊎◌, ℕ, List, [], length, map, All, sum_by}
 use Rattle.store_journal.specs.Area.{Standing, unborn, born, foreign, stands}
 use Rattle.store_journal.specs.Disk.{Areas}
-use Rattle.sms_record.specs.declared.sms.Sms.{Sms}
+use Rattle.sms_record.specs.declared.entry.accept.Accept.{Accept}
 use Rattle.sms_record.specs.Entry.{IsAccept, accept_octets}
 
--- messages that were accepted together, and when
-pub record Accept : Type 0 where
-  pub time : ℕ
-  pub parts : List Sms
-
--- it is in the grammar of entries
-abbrev pub IsEntry : Accept → Type 0
-IsEntry accept = IsAccept accept.time accept.parts
-
--- the payload that it is kept as
-abbrev pub entry : Accept → List ℕ
-entry accept = accept_octets accept.time accept.parts
-
--- the payloads that all are kept as, in their order
+-- the payloads that entries are kept as, in their order
 abbrev pub entries : List Accept → List (List ℕ)
-entries accepts = map entry accepts
+entries accepts = map accept_octets accepts
 
 -- how many messages they are
 abbrev pub messages : List Accept → ℕ
@@ -40,5 +27,5 @@ IsLeftAlone before now birth = (now ≡ before) ⊎ ((stands before ≡ unborn) 
 -- areas that stand so are no store: they are in no journal's grammar, or a payload of theirs is no entry
 abbrev pub IsForeign : Standing → Type 0
 IsForeign unborn = ⊥
-IsForeign (born birth area payloads) = (accepts : List Accept) → All IsEntry accepts → payloads ≡ entries accepts → ⊥
+IsForeign (born birth area payloads) = (accepts : List Accept) → All IsAccept accepts → payloads ≡ entries accepts → ⊥
 IsForeign (foreign area at) = Unit {0}

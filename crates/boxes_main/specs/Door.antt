@@ -9,7 +9,9 @@ use Rattle.sendsms_http.specs.declared.http_end.HttpEnd.{HttpEnd}
 use Rattle.sendsms_http.specs.declared.http_end.HttpEnd.TheVariants as end_is
 use Rattle.store_journal.specs.Area.{stands, unborn}
 use Rattle.store_journal.specs.Disk.{Areas}
-use Rattle.boxes_main.specs.Accepts.{Accept, IsEntry, StandsFor}
+use Rattle.sms_record.specs.declared.entry.accept.Accept.{Accept}
+use Rattle.sms_record.specs.Entry.{IsAccept}
+use Rattle.boxes_main.specs.Accepts.{StandsFor}
 use Rattle.boxes_main.specs.Configuration.{HasText, IsRefused}
 use Rattle.boxes_main.specs.Deeds.{done_of, AreReasoned}
 use Rattle.boxes_main.specs.House.{IsToldWord}
@@ -67,7 +69,7 @@ module _ {D : Type 0} (tells : Bool) (contents : D → Areas) (faults : D → �
       (areas : Areas) (word : Option ℕ) (old new : Course) (readings : List ℕ) (end : HttpEnd) (disk : D) (fault : Option SessionFault) : Type 0 where
     pub birth : ℕ
     pub accepts : List Accept
-    pub each : All IsEntry accepts
+    pub each : All IsAccept accepts
     pub stood : OnTrue tells (StandsFor (stands areas) birth accepts)
     pub born : OnTrue tells (stands areas ≡ unborn → IsToldWord word birth)
     pub deeds : List Deed

@@ -5,7 +5,9 @@ use Rattle.kn_base.specs.Count.{Rose, last_count}
 use Rattle.store_journal.specs.Area.{stands, unborn}
 use Rattle.store_journal.specs.Disk.{Areas}
 use Rattle.store_journal.specs.Journal.{IsJournal, IsHandedOut, disk_of, birth_of, is_broken}
-use Rattle.boxes_main.specs.Accepts.{Accept, IsEntry, entries, messages, StandsFor, IsForeign, IsLeftAlone}
+use Rattle.sms_record.specs.declared.entry.accept.Accept.{Accept}
+use Rattle.sms_record.specs.Entry.{IsAccept}
+use Rattle.boxes_main.specs.Accepts.{entries, messages, StandsFor, IsForeign, IsLeftAlone}
 use Rattle.boxes_main.specs.declared.store.Store.{Store}
 use Rattle.boxes_main.specs.declared.store.StoreFault.{StoreFault}
 use Rattle.boxes_main.specs.declared.store.StoreFault.TheVariants.{Foreign, Disk, Memory}
@@ -31,7 +33,7 @@ module _ {D : Type 0} where
   pub record IsStore (tells : Bool) (contents : D → Areas) (store : Store D) (birth : ℕ) (accepts : List Accept) : Type 0 where
     pub journal : IsJournal tells contents store.journal birth (entries accepts)
     pub handed_out : IsHandedOut store.journal
-    pub each : All IsEntry accepts
+    pub each : All IsAccept accepts
     pub waiting : store.waiting ≡ min (messages accepts) last_count
 
   -- the store holds some entries

@@ -8,7 +8,9 @@ use Rattle.store_journal.specs.Disk.{Areas}
 use Rattle.store_journal.specs.Journal.{HoldsSame, disk_of, birth_of, left}
 use Rattle.store_journal.specs.declared.area.Area.{Area}
 use Rattle.store_journal.specs.declared.journal.Journal.{Journal}
-use Rattle.boxes_main.specs.Accepts.{Accept, IsEntry, entry, entries}
+use Rattle.sms_record.specs.declared.entry.accept.Accept.{Accept}
+use Rattle.sms_record.specs.Entry.{IsAccept, accept_octets}
+use Rattle.boxes_main.specs.Accepts.{entries}
 use Rattle.boxes_main.specs.Store.{IsStore, disk_in}
 use Rattle.boxes_main.specs.declared.store.Store.{Store}
 use Rattle.boxes_main.specs.declared.store.StoreFault.{StoreFault}
@@ -16,8 +18,8 @@ use Rattle.boxes_main.specs.declared.store.StoreFault.TheVariants.{Foreign, Disk
 
 -- how many messages a payload has, where it is an entry
 abbrev pub CountsIn : List ℕ → Option ℕ → Type 0
-CountsIn payload None = (accept : Accept) → IsEntry accept → payload ≡ entry accept → ⊥
-CountsIn payload (Some count) = (accept : Accept) × IsEntry accept × (payload ≡ entry accept) × (count ≡ length accept.parts)
+CountsIn payload None = (accept : Accept) → IsAccept accept → payload ≡ accept_octets accept → ⊥
+CountsIn payload (Some count) = (accept : Accept) × IsAccept accept × (payload ≡ accept_octets accept) × (count ≡ length accept.parts)
 
 module _ {D : Type 0} (tells : Bool) (contents : D → Areas) where
   -- What was left of a journal to hand out is the entries that the store holds, on the same disk.
@@ -29,7 +31,7 @@ module _ {D : Type 0} (tells : Bool) (contents : D → Areas) where
 
   -- why what is left of a journal isn't loaded: a payload is no entry, or memory was wanting
   abbrev pub IsNotLoaded : Journal D → StoreFault → Type 0
-  IsNotLoaded journal Foreign = (accepts : List Accept) → All IsEntry accepts → left journal ≡ entries accepts → ⊥
+  IsNotLoaded journal Foreign = (accepts : List Accept) → All IsAccept accepts → left journal ≡ entries accepts → ⊥
   IsNotLoaded journal Disk = ⊥
   IsNotLoaded journal Memory = Unit {0}
 

@@ -6,14 +6,15 @@ ghost use Rattle.sms_record.specs.Entry.{accept_octets};
 ghost use Rattle.sendsms_http.specs.Acceptor.{MayBeHanded};
 ghost use Rattle.store_journal.specs.Area.{stands};
 ghost use Rattle.store_journal.specs.Journal.{IsJournal, IsKept, HoldsMore, IsHandedOut, left, birth_of};
-ghost use Rattle.boxes_main.specs.Accepts.{Accept, StandsFor};
+ghost use Rattle.sms_record.specs.declared.entry.accept.Accept.{Accept};
+ghost use Rattle.boxes_main.specs.Accepts.{StandsFor};
 ghost use Rattle.boxes_main.specs.Deeds.{Does, CountsFault, is_by_disk};
 ghost use Rattle.boxes_main.specs.Store.{IsStore, IsOpen, IsOpened, IsUnopened, disk_in, is_store_broken};
 ghost use Rattle.boxes_main.specs.StoreSteps.{CountsIn, Loads, LoadsNone, RefusesAppend};
 
-use kn_base::{Memory, Octets};
+use kn_base::{Items, Memory, Octets};
 use sendsms_http::{Acceptor, Refusal, Reply};
-use sms_record::entry::{read_accept, write_accept};
+use sms_record::entry::{Accept, read_accept, write_accept};
 use sms_record::{RecordFault, Sms};
 use std::alloc::Global;
 use store_journal::{Disk, DiskFailed, Journal, OpenFault};
@@ -44,7 +45,7 @@ fn count_messages(alloc: Global, payload: &Octets) -> Result<Option<u64>, Memory
     ensures { IfOk result (CountsIn payload.now) }
 {
     match read_accept(alloc, payload.as_slice()) {
-        Ok(accept) => Ok(Some(accept.1.len() as u64)),
+        Ok(accept) => Ok(Some(accept.parts.len() as u64)),
         Err(RecordFault::Memory) => Err(Memory),
         Err(RecordFault::Short) => Ok(None),
         Err(RecordFault::Malformed { .. }) => Ok(None),
@@ -98,24 +99,24 @@ impl<D: Disk> Store<D> {
         self.journal.is_broken()
     }
 
-    /// Records messages at a time, in Unix seconds, as one entry on the disk.
+    /// Records messages that were taken at one time as one entry on the disk.
     ///
     /// `Full` where the messages that wait and these would pass `QUEUE_LIMIT`, `Disk` where a disk call failed, which breaks the
     /// store, `Memory` where there was none. Only an entry that was accepted is kept, but for `Disk`, where that isn't known.
-    pub fn accept(&mut self, parts: &[Sms], time: u64) -> Result<Reply, Refusal>
+    pub fn accept(&mut self, accept: &Accept) -> Result<Reply, Refusal>
         requires kept { IsOpen D.tells D.contents self.old }
-        requires fits { MayBeHanded parts.now time }
-        ensures { Does D.tells D.contents D.faults self.old (record { parts = parts.now; time = time; outcome = result }) self.new }
+        requires fits { MayBeHanded accept.now.parts accept.now.time }
+        ensures { Does D.tells D.contents D.faults self.old (record { parts = accept.now.parts; time = accept.now.time; outcome = result }) self.new }
     {
         let held = self.waiting;
-        let count = parts.len() as u32;
+        let count = accept.parts.len() as u32;
         if held > QUEUE_LIMIT - u64::from(count) {
             return Err(Refusal::Full {
                 held,
                 limit: QUEUE_LIMIT,
             });
         }
-        self.append_entry(parts, time)?;
+        self.append_entry(accept)?;
         self.waiting = held + u64::from(count);
         Ok(Reply::Accepted {
             first: held + 1,
@@ -125,19 +126,19 @@ impl<D: Disk> Store<D> {
     }
 
     /// Puts an entry last in the journal.
-    fn append_entry(&mut self, parts: &[Sms], time: u64) -> Result<(), Refusal>
+    fn append_entry(&mut self, accept: &Accept) -> Result<(), Refusal>
         requires kept { IsKept D.tells D.contents self.old.journal }
         requires handed_out { IsHandedOut self.old.journal }
-        requires fits { MayBeHanded parts.now time }
+        requires fits { MayBeHanded accept.now.parts accept.now.time }
         ensures same { self.new ≡ record self.old { journal = self.new.journal } }
-        ensures ok { OnOk result (HoldsMore D.tells D.contents self.old.journal self.new.journal (accept_octets time parts.now ∷ [])) }
+        ensures ok { OnOk result (HoldsMore D.tells D.contents self.old.journal self.new.journal (accept_octets accept.now ∷ [])) }
         ensures refused { IfErr result (RefusesAppend D.tells D.contents self.old.journal self.new.journal) }
         ensures handed_out { IsHandedOut self.new.journal }
         ensures broken { is_store_broken self.new ≡ is_by_disk result }
         ensures counted { CountsFault (is_by_disk result) (D.faults (disk_in self.old)) (D.faults (disk_in self.new)) }
     {
         let mut entry = Octets::new(self.alloc);
-        if let Err(Memory) = write_accept(&mut entry, time, parts) {
+        if let Err(Memory) = write_accept(&mut entry, accept) {
             return Err(Refusal::Memory);
         }
         if let Err(Memory) = self.journal.reserve(entry.as_slice()) {
@@ -180,6 +181,9 @@ impl<D: Disk> Acceptor for Store<D> {
     ghost leads_on = { Leads-append D.tells D.contents D.faults };
 
     fn submit(&mut self, parts: Vec<Sms>, time: u64) -> Result<Reply, Refusal> {
-        self.accept(&parts, time)
+        self.accept(&Accept {
+            time,
+            parts: Items::from_vec(parts),
+        })
     }
 }

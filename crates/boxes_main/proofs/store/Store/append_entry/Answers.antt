@@ -5,7 +5,7 @@ use Rattle.boxes_main.proofs.store.Store.append_entry.Goals as goal
 
 pub returns-in-Ok-clause-ok : goal.returns-in-Ok-clause-ok
 returns-in-Ok-clause-ok g c =
-    let text = accept_octets c.args.time c.args.parts.now in
+    let text = accept_octets c.args.accept.now in
     let e : reserved c.reserve.new.self ≡ text =
     c.in_default-reserve.ensures.ok ∙ (c.as_slice.ensures ∙ (c.in_default.ensures.ok ∙ ap (λ x. x ++ text) c.new-entry.ensures)) in
     λ birth payloads is.
