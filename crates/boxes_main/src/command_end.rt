@@ -5,14 +5,14 @@ use kn_base::Items;
 use sendsms_http::HttpEnd;
 
 /// What a worker did.
-#[derive(Clone, Copy, Debug, PartialEq, Eq)]
+#[derive(Clone, Copy)]
 pub enum Role {
     /// It served connections over HTTP.
     Http,
 }
 
 /// How a session ended.
-#[derive(Clone, Copy, Debug, PartialEq, Eq)]
+#[derive(Clone, Copy)]
 pub enum SessionEnd {
     /// A connection over HTTP.
     Http(HttpEnd),
