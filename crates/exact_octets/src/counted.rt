@@ -1,9 +1,9 @@
 //! Octets behind a number that says how many they are.
 
-ghost use Rattle.std.specs.Prelude.{◌≡◌, ◌<◌, ◌++◌, length, OnOk, OnErr};
+ghost use Rattle.std.specs.Prelude.{◌≡◌, ◌<◌, ◌++◌, length, IfErr, OnOk, OnErr};
 ghost use Rattle.exact_octets.specs.Growth.{Keeps};
 ghost use Rattle.exact_octets.specs.Spelling.{short, long};
-ghost use Rattle.exact_octets.specs.Reading.{Gives, short_at as short_front, counted_at as counted_front};
+ghost use Rattle.exact_octets.specs.Reading.{Gives, IsOfOctets, short_at as short_front, counted_at as counted_front};
 
 use crate::{Alphabet, Numbers, ReadFault, number_at, octet_at, octets_at};
 use kn_base::{Memory, Octets};
@@ -16,7 +16,8 @@ pub fn short_at(
     most: u8,
     alphabet: Alphabet,
 ) -> Result<(&[u8], &[u8]), ReadFault>
-    ensures { Gives (λ x. (x.0.now, x.1.now)) result (short_front least most alphabet octets.now) }
+    ensures gives { Gives (λ x. (x.0.now, x.1.now)) result (short_front least most alphabet octets.now) }
+    ensures no_memory { IfErr result IsOfOctets }
 {
     let (len, rest) = octet_at(octets, least, most)?;
     let (text, rest) = octets_at(rest, len as usize, alphabet)?;
@@ -31,7 +32,8 @@ pub fn counted_at(
     numbers: Numbers,
     alphabet: Alphabet,
 ) -> Result<(&[u8], &[u8]), ReadFault>
-    ensures { Gives (λ x. (x.0.now, x.1.now)) result (counted_front width numbers alphabet octets.now) }
+    ensures gives { Gives (λ x. (x.0.now, x.1.now)) result (counted_front width numbers alphabet octets.now) }
+    ensures no_memory { IfErr result IsOfOctets }
 {
     let (len, rest) = number_at(octets, width, numbers)?;
     let (text, rest) = octets_at(rest, len as usize, alphabet)?;

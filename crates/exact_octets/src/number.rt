@@ -1,8 +1,8 @@
 //! Numbers of several octets, the high one first.
 
-ghost use Rattle.std.specs.Prelude.{◌≡◌, ◌≤◌, ◌+◌, ◌*◌, ◌/◌, IfOk};
+ghost use Rattle.std.specs.Prelude.{◌≡◌, ◌≤◌, ◌+◌, ◌*◌, ◌/◌, IfOk, IfErr};
 ghost use Rattle.exact_octets.specs.Numbers.{from_to as from_to_front, even_up_to as even_up_to_front, is_among as is_among_front, high_of};
-ghost use Rattle.exact_octets.specs.Reading.{Gives, made, octet_at as octet_front, number_at as number_front};
+ghost use Rattle.exact_octets.specs.Reading.{Gives, IsOfOctets, made, octet_at as octet_front, number_at as number_front};
 
 use crate::ReadFault;
 
@@ -59,6 +59,7 @@ fn last_at(octets: &[u8], numbers: Numbers, high: u64) -> Result<(u64, &[u8]), R
     requires { high ≤ numbers.most / 256 }
     ensures gives { Gives (λ x. (x.0, x.1.now)) result (made (λ low. high * 256 + low) (octet_front (λ low. is_among_front numbers (high * 256 + low))) octets.now) }
     ensures most { IfOk result (λ x. x.0 ≤ numbers.most) }
+    ensures no_memory { IfErr result IsOfOctets }
 {
     match octets {
         [] => Err(ReadFault::Short),
@@ -77,6 +78,7 @@ fn last_at(octets: &[u8], numbers: Numbers, high: u64) -> Result<(u64, &[u8]), R
 pub fn number_at(octets: &[u8], width: usize, numbers: Numbers) -> Result<(u64, &[u8]), ReadFault>
     ensures gives { Gives (λ x. (x.0, x.1.now)) result (number_front width numbers octets.now) }
     ensures most { IfOk result (λ x. x.0 ≤ numbers.most) }
+    ensures no_memory { IfErr result IsOfOctets }
 {
     if width == 0 {
         return Ok((0, octets));

@@ -1,15 +1,16 @@
 //! One octet, and what it names.
 
-ghost use Rattle.std.specs.Prelude.{◌≡◌};
+ghost use Rattle.std.specs.Prelude.{◌≡◌, IfErr};
 ghost use Rattle.exact_octets.specs.declared.alphabet.Alphabet.TheVariants.{Any};
 ghost use Rattle.exact_octets.specs.Alphabet.{within, is_in};
-ghost use Rattle.exact_octets.specs.Reading.{Gives, octet_at as octet_front, named as named_front};
+ghost use Rattle.exact_octets.specs.Reading.{Gives, IsOfOctets, octet_at as octet_front, named as named_front};
 
 use crate::ReadFault;
 
 /// The first octet, whatever it is, and what stands behind it.
 pub fn any_octet_at(octets: &[u8]) -> Result<(u8, &[u8]), ReadFault>
-    ensures { Gives (λ x. (x.0, x.1.now)) result (octet_front (is_in Any) octets.now) }
+    ensures gives { Gives (λ x. (x.0, x.1.now)) result (octet_front (is_in Any) octets.now) }
+    ensures no_memory { IfErr result IsOfOctets }
 {
     match octets {
         [] => Err(ReadFault::Short),
@@ -19,7 +20,8 @@ pub fn any_octet_at(octets: &[u8]) -> Result<(u8, &[u8]), ReadFault>
 
 /// What the octet before the others named, if it names anything.
 pub fn named<T>(value: Option<T>, rest: &[u8]) -> Result<(T, &[u8]), ReadFault>
-    ensures { Gives (λ x. (x.0, x.1.now)) result (named_front value rest.now) }
+    ensures gives { Gives (λ x. (x.0, x.1.now)) result (named_front value rest.now) }
+    ensures no_memory { IfErr result IsOfOctets }
 {
     match value {
         Some(value) => Ok((value, rest)),
@@ -31,7 +33,8 @@ pub fn named<T>(value: Option<T>, rest: &[u8]) -> Result<(T, &[u8]), ReadFault>
 
 /// One octet between two bounds, and what stands behind it.
 pub fn octet_at(octets: &[u8], least: u8, most: u8) -> Result<(u8, &[u8]), ReadFault>
-    ensures { Gives (λ x. (x.0, x.1.now)) result (octet_front (within least most) octets.now) }
+    ensures gives { Gives (λ x. (x.0, x.1.now)) result (octet_front (within least most) octets.now) }
+    ensures no_memory { IfErr result IsOfOctets }
 {
     match octets {
         [] => Err(ReadFault::Short),
