@@ -71,7 +71,7 @@ module _ {A : Type 0} (Good : A → Type 0) (spelled : A → List ℕ) where
         h.some (nothing_last rest h.more same.1)
 
     -- octets that begin a spelling up to a place begin one up to each earlier place
-    begins_earlier : (octets : List ℕ) (m n : ℕ) → m ≤ n → Begins Spelled (take n octets) → Begins Spelled (take m octets)
+    pub begins_earlier : (octets : List ℕ) (m n : ℕ) → m ≤ n → Begins Spelled (take n octets) → Begins Spelled (take m octets)
     begins_earlier octets m n le b =
         let parts : take m octets ++ drop m (take n octets) ≡ take n octets = ap (λ (t : List ℕ). t ++ drop m (take n octets)) (sym (take-take m n octets le)) ∙ take-append-drop m (take n octets) in
         let one : take m octets ++ (drop m (take n octets) ++ b.more) ≡ take n octets ++ b.more = sym (append_assoc (take m octets) (drop m (take n octets)) b.more) ∙ ap (λ (t : List ℕ). t ++ b.more) parts in

@@ -25,6 +25,12 @@ Fails faults.Memory read = Unit {0}
 Fails faults.Short read = read ≡ Err faults.Short
 Fails (faults.Malformed left) read = read ≡ Err (faults.Malformed left)
 
+-- the fault is of the octets, and no want of memory
+abbrev pub IsOfOctets : ReadFault → Type 0
+IsOfOctets faults.Short = Unit {0}
+IsOfOctets (faults.Malformed left) = Unit {0}
+IsOfOctets faults.Memory = ⊥
+
 -- what a function returned, seen by view, is what reading gives, unless memory ran out
 abbrev pub Gives : {X Y : Type 0} → (X → Y) → Result X ReadFault → Result Y ReadFault → Type 0
 Gives view (Ok x) read = read ≡ Ok (view x)

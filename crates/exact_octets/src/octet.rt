@@ -1,15 +1,16 @@
 //! One octet, and what it names.
 
-ghost use Rattle.std.specs.Prelude.{◌≡◌};
+ghost use Rattle.std.specs.Prelude.{◌≡◌, IfErr};
 ghost use Rattle.exact_octets.specs.declared.alphabet.Alphabet.TheVariants.{Any};
 ghost use Rattle.exact_octets.specs.Alphabet.{within, is_in};
-ghost use Rattle.exact_octets.specs.Reading.{Gives, octet_at as octet_front, named as named_front};
+ghost use Rattle.exact_octets.specs.Reading.{Gives, IsOfOctets, octet_at as octet_front, named as named_front};
 
 use crate::ReadFault;
 
 /// The first octet, whatever it is, and what stands behind it.
 pub fn any_octet_at(octets: &[u8]) -> Result<(u8, &[u8]), ReadFault>
-    ensures { Gives (λ x. (x.0, x.1.now)) result (octet_front (is_in Any) octets.now) }
+    ensures gives { Gives (λ x. (x.0, x.1.now)) result (octet_front (is_in Any) octets.now) }
+    ensures no_memory { IfErr result IsOfOctets }
 {
     match octets {
         [] => Err(ReadFault::Short),

@@ -1,7 +1,7 @@
 //! So many octets.
 
-ghost use Rattle.std.specs.Prelude.{◌≡◌, length, IfOk};
-ghost use Rattle.exact_octets.specs.Reading.{Gives, octets_at as octets_front};
+ghost use Rattle.std.specs.Prelude.{◌≡◌, length, IfOk, IfErr};
+ghost use Rattle.exact_octets.specs.Reading.{Gives, IsOfOctets, octets_at as octets_front};
 
 use crate::alphabet::is_in;
 use crate::{Alphabet, ReadFault};
@@ -10,6 +10,7 @@ use crate::{Alphabet, ReadFault};
 pub fn octets_at(octets: &[u8], len: usize, alphabet: Alphabet) -> Result<(&[u8], &[u8]), ReadFault>
     ensures gives { Gives (λ x. (x.0.now, x.1.now)) result (octets_front alphabet len octets.now) }
     ensures len { IfOk result (λ x. length x.0.now ≡ len) }
+    ensures no_memory { IfErr result IsOfOctets }
 {
     let front = &octets[..len.min(octets.len())];
     for (index, octet) in front.iter().enumerate() {

@@ -1,7 +1,7 @@
 //! The user data header (GSM 03.40 9.2.3.24) out of its octets: borrowed, and without taking memory.
 
-ghost use Rattle.std.specs.Prelude.{◌≡◌, ◌≢◌, ◌+◌, ◌≤◌, length, IfOk};
-ghost use Rattle.exact_octets.specs.Reading.{Gives, behind, octet_at as octet_front};
+ghost use Rattle.std.specs.Prelude.{◌≡◌, ◌≢◌, ◌+◌, ◌≤◌, length, IfOk, IfErr};
+ghost use Rattle.exact_octets.specs.Reading.{Gives, IsOfOctets, behind, octet_at as octet_front};
 ghost use Rattle.sms_record.specs.HeaderReading.{is_count, is_value_len, is_udh_len, element_of, element_at as element_front, elements_at as elements_front, udh_of_len_at as udh_of_len_front, udh_at as udh_front};
 
 use crate::limits::MOST_HEADER;
@@ -20,6 +20,7 @@ pub struct Element<'a> {
 pub fn header_count_at(octets: &[u8]) -> Result<(u8, &[u8]), ReadFault>
     ensures gives { Gives (λ x. (x.0, x.1.now)) result (octet_front is_count octets.now) }
     ensures not_one { IfOk result (λ x. x.0 ≢ 1) }
+    ensures no_memory { IfErr result IsOfOctets }
 {
     match octets {
         [] => Err(ReadFault::Short),
@@ -37,6 +38,7 @@ pub fn header_count_at(octets: &[u8]) -> Result<(u8, &[u8]), ReadFault>
 fn value_len_at(octets: &[u8], left: usize) -> Result<(u8, &[u8]), ReadFault>
     ensures gives { Gives (λ x. (x.0, x.1.now)) result (octet_front (is_value_len left) octets.now) }
     ensures room { IfOk result (λ x. x.0 + 2 ≤ left) }
+    ensures no_memory { IfErr result IsOfOctets }
 {
     match octets {
         [] => Err(ReadFault::Short),
@@ -59,6 +61,7 @@ fn value_len_at(octets: &[u8], left: usize) -> Result<(u8, &[u8]), ReadFault>
 pub fn element_at(octets: &[u8], left: usize) -> Result<(Element, &[u8]), ReadFault>
     ensures gives { Gives (λ x. (element_of x.0.id x.0.value.now, x.1.now)) result (element_front left octets.now) }
     ensures room { IfOk result (λ x. length x.0.value.now + 2 ≤ left) }
+    ensures no_memory { IfErr result IsOfOctets }
 {
     let (id, rest) = any_octet_at(octets)?;
     let (len, rest) = value_len_at(rest, left)?;
