@@ -1,4 +1,4 @@
-//! Why a text could not be split, or a header not read.
+//! Why a text could not be split.
 
 ghost use Rattle.std.specs.Prelude.{◌≡◌};
 
@@ -15,18 +15,11 @@ pub enum SplitFault {
 
 impl From<Memory> for SplitFault {
     ghost use Rattle.std.specs.Prelude.{◌≡◌};
-    ghost use Rattle.concat_split.specs.declared.fault.SplitFault.TheVariants as faults;
+    ghost use Rattle.concat_split.specs.declared.split_fault.SplitFault.TheVariants as faults;
 
     ghost from_gives = { λ _ fault. fault ≡ faults.Memory };
 
     fn from(_memory: Memory) -> SplitFault {
         SplitFault::Memory
     }
-}
-
-/// Why octets are no user data header.
-#[derive(Clone, Copy, Debug, PartialEq)]
-pub enum HeaderFault {
-    /// The first `at` octets begin a header, and the first `at + 1` don't, or there are no more.
-    Malformed { at: usize },
 }

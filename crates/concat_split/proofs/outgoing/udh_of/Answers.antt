@@ -4,9 +4,10 @@ use Rattle.kn_base.specs.declared.octets.Octets.{Octets}
 use Rattle.kn_base.specs.declared.memory.Memory.{Memory}
 use Rattle.sms_record.specs.Header.{IsHeaderOrNone}
 use Rattle.sms_record.specs.Room.{header_len}
-use Rattle.concat_split.specs.Header.{Says, header_of, reference}
+use Rattle.concat_split.specs.Joint.{Says}
+use Rattle.concat_split.specs.Outgoing.{header_of, reference}
 use Rattle.concat_split.proofs.Headers.{out_formed, out_says, length-header_of}
-use Rattle.concat_split.proofs.header.udh_of.Goals as goal
+use Rattle.concat_split.proofs.outgoing.udh_of.Goals as goal
 
 pub returns-clause-formed : goal.returns-clause-formed
 returns-clause-formed c =
