@@ -2,7 +2,7 @@
 use Rattle.std.specs.Prelude.{◌≡◌, ℕ, List, [], ◌∷◌, Option, Some, None, nat_eq, if◌then◌else◌}
 use Rattle.std.specs.Cmp.Lexicographic.{pointwise}
 use Rattle.store_journal.specs.Disk.{Areas, no_areas}
-use Rattle.store_journal.specs.MemDisk.{mem_areas, mem_failing}
+use Rattle.store_journal.specs.MemDisk.{mem_areas, mem_calls}
 use Rattle.store_journal.specs.declared.mem_disk.MemDisk.{MemDisk}
 
 -- the first disk under a name
@@ -23,4 +23,4 @@ areas_in (Some disk) = mem_areas disk
 -- the numbers of a disk's calls that are to fail, and none where there is none
 abbrev pub failing_in : Option MemDisk → List ℕ
 failing_in None = []
-failing_in (Some disk) = mem_failing disk
+failing_in (Some disk) = (mem_calls disk).failing
