@@ -7,8 +7,8 @@ use Rattle.store_journal.specs.declared.area.Area.{Area}
 use Rattle.store_journal.specs.Journal.{IsJournal, left, reserved}
 use Rattle.store_journal.specs.declared.journal.Journal.{Journal}
 use Rattle.std.proofs.lemmas.List.{append-nil}
-use Rattle.std.proofs.lemmas.List.Elements.{All-append}
-use Rattle.store_journal.proofs.Units.{all_more, units-append}
+use Rattle.std.proofs.lemmas.List.Elements.{All-append, All-from_recursion}
+use Rattle.std.proofs.lemmas.List.Concat.{flat_map-append}
 use Rattle.store_journal.proofs.Texts.{stands_stored, stored_more}
 
 -- areas that hold payloads stand for them, where that is told
@@ -43,10 +43,10 @@ appended tells contents old new birth payloads is ended some whole same_birth sa
       whole = whole;
       born = same_birth ∙ is.born;
       small = is.small;
-      sizes = All-append IsPayload payloads (payload ∷ []) is.sizes (all_more payload [] size (λ k d below. absurd (omega arith)));
+      sizes = All-append IsPayload payloads (payload ∷ []) is.sizes (All-from_recursion IsPayload (payload ∷ []) (size, tt));
       split = sym (ap (λ l. (payloads ++ payload ∷ []) ++ l) (same_left ∙ ended) ∙ append-nil (payloads ++ payload ∷ []));
       place = place;
-      end = on ∙ omega (arith, is.end, long, ap length (units-append payloads (payload ∷ [])), length-append (units payloads) (units (payload ∷ [])), length-append (unit payload) []);
+      end = on ∙ omega (arith, is.end, long, ap length (flat_map-append unit payloads (payload ∷ [])), length-append (units payloads) (units (payload ∷ [])), length-append (unit payload) []);
       ready = λ more. absurd (omega (arith, ap length none));
       fits = λ more. absurd (omega (arith, ap length none));
       stored = subst (λ area. OnTrue tells (IsStored (contents new.disk) area birth (payloads ++ payload ∷ []))) (sym same_area)

@@ -1,6 +1,6 @@
 -- What the three areas of a disk hold, and what its calls do to them.
 use Rattle.std.specs.Prelude.{◌≡◌, ◌≤◌, ◌+◌, ℕ, Bool, true, List, [], ◌++◌, length, take, drop, Result, OnOk, OnErr}
-use Rattle.kn_base.specs.Count.{Rose, next_count}
+use Rattle.kn_base.specs.Count.{next_count}
 use Rattle.store_journal.specs.declared.area.Area.{Area}
 use Rattle.store_journal.specs.declared.area.Area.TheVariants.{A, B, Pick}
 use Rattle.store_journal.specs.declared.disk.DiskFailed.{DiskFailed}
@@ -80,10 +80,3 @@ pub record CountsCall {T : Type 0} (calls calls_now faults faults_now : ℕ) (re
   pub kept : faults ≤ faults_now
   pub ok : OnOk result (faults_now ≡ faults)
   pub failed : OnErr result (faults_now ≡ next_count faults)
-
--- At most so many calls were made. The count of faults stays at Ok and rises at a fault, and never falls.
-pub record Spends {T : Type 0} (most calls calls_now faults faults_now : ℕ) (result : Result T DiskFailed) : Type 0 where
-  pub bounded : calls_now ≤ calls + most
-  pub kept : faults ≤ faults_now
-  pub ok : OnOk result (faults_now ≡ faults)
-  pub failed : OnErr result (Rose faults faults_now)

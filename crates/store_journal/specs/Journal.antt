@@ -1,15 +1,13 @@
 -- What a journal keeps, and what its calls answer.
-use Rattle.std.specs.Prelude.{◌≡◌, ◌<◌, ◌≤◌, ◌+◌, ◌-◌, ◌^◌, ℕ, Bool, false, List, [], ◌∷◌, ◌++◌, length, take, drop, All, Option, Some, None, Result, Ok, Err, OnOk, IsErrOf}
+use Rattle.std.specs.Prelude.{◌≡◌, ◌<◌, ◌≤◌, ◌-◌, ◌^◌, ℕ, Bool, false, List, [], ◌∷◌, ◌++◌, length, take, drop, All, Option, Some, None, Result, Ok, Err}
 use Rattle.std.specs.Bool.{OnTrue}
-use Rattle.store_journal.specs.Disk.{Areas, octets_of, after_write, Synced, all_synced}
-use Rattle.store_journal.specs.Area.{Standing, unborn, born, foreign, stands, gate_place, unit, area_text, payloads_in, IsPayload, IsStored}
-use Rattle.kn_base.specs.Count.{Rose}
+use Rattle.store_journal.specs.Disk.{Areas, after_write, Synced, all_synced}
+use Rattle.store_journal.specs.Area.{Standing, unborn, born, foreign, stands, gate_place, unit, payloads_in, IsPayload, IsStored}
 use Rattle.store_journal.specs.declared.area.Area.{Area}
-use Rattle.store_journal.specs.declared.area.Area.TheVariants.{A, B, Pick}
+use Rattle.store_journal.specs.declared.area.Area.TheVariants.{A}
 use Rattle.store_journal.specs.declared.fault.OpenFault.{OpenFault}
 use Rattle.store_journal.specs.declared.fault.OpenFault.TheVariants.{Foreign, Disk, Memory}
 use Rattle.store_journal.specs.declared.journal.Journal.{Journal}
-use Rattle.store_journal.specs.declared.found.Found.{Found}
 
 module _ {D : Type 0} where
   -- the disk of a journal
@@ -88,23 +86,6 @@ synced_after unborn synced = all_synced
 synced_after (born birth area payloads) synced = synced
 synced_after (foreign area at) synced = synced
 
--- what was found at an opening, with the areas before it and now
-pub record IsFound (tells : Bool) (before now : Areas) (birth : ℕ) (found : Found) (payloads : List (List ℕ)) : Type 0 where
-  pub small : found.birth < 2 ^ 64
-  pub sizes : All IsPayload payloads
-  pub left : payloads_in (drop found.place found.octets.items) ≡ payloads
-  pub place : found.place ≤ length found.octets.items
-  pub end : found.end ≡ gate_place payloads
-  pub stored : OnTrue tells (IsStored now found.area found.birth payloads)
-  pub stood : OnTrue tells (OpensAs (stands before) birth found.birth found.area payloads)
-
--- At most so many calls were made. The count of faults stays at Ok, never falls, and rises where Disk is answered.
-pub record Spares {T : Type 0} (most calls calls_now faults faults_now : ℕ) (result : Result T OpenFault) : Type 0 where
-  pub bounded : calls_now ≤ calls + most
-  pub kept : faults ≤ faults_now
-  pub ok : OnOk result (faults_now ≡ faults)
-  pub failed : IsErrOf result Disk → Rose faults faults_now
-
 -- an opening answers Foreign only where the areas are, in that area at that place
 abbrev pub IsCause : Areas → OpenFault → Type 0
 IsCause areas (Foreign area at) = stands areas ≡ foreign area at
@@ -117,20 +98,10 @@ Hands left (Ok None) now = (left ≡ []) × (now ≡ [])
 Hands left (Ok (Some payload)) now = left ≡ payload ∷ now
 Hands left (Err fault) now = (fault ≡ Memory) × (now ≡ left)
 
--- an area holds more than a birth would write, where contents are told, or the disk failed
-abbrev pub IsMore : Bool → Areas → Area → OpenFault → Type 0
-IsMore tells areas area (Foreign more at) = (more ≡ area) × (at ≡ 17) × OnTrue tells (17 < length (octets_of areas area))
-IsMore tells areas area Disk = Unit {0}
-IsMore tells areas area Memory = ⊥
-
 -- a fact that holds unless the disk failed
 abbrev pub IsUnlessDisk : OpenFault → Type 0 → Type 0
 IsUnlessDisk Disk P = Unit {0}
 IsUnlessDisk fault P = P
-
--- the areas after a birth: both have a header and a closed gate, and Pick picks the first
-abbrev pub after_birth : ℕ → Areas → Areas
-after_birth birth areas = after_write Pick 0 (1 ∷ []) (after_write B 0 (area_text birth [] 0) (after_write A 0 (area_text birth [] 0) areas))
 
 -- nothing is written to areas that stand for a store, or are foreign
 abbrev pub IsUntouched : Areas → Areas → Type 0

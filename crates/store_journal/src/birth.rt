@@ -3,8 +3,10 @@
 ghost use Rattle.std.specs.Prelude.{◌≡◌, ◌≤◌, [], length, IfErr, OnOk, None};
 ghost use Rattle.std.specs.Bool.{OnTrue};
 ghost use Rattle.store_journal.specs.Area.{picked, stands, unborn, IsStored};
-ghost use Rattle.store_journal.specs.Disk.{Spends, all_synced, octets_of};
-ghost use Rattle.store_journal.specs.Journal.{IsCause, IsMore, IsUnlessDisk, IsUntouched, Spares, after_birth};
+ghost use Rattle.store_journal.specs.Costs.{Spares, Spends};
+ghost use Rattle.store_journal.specs.Disk.{all_synced, octets_of};
+ghost use Rattle.store_journal.specs.Journal.{IsCause, IsUnlessDisk, IsUntouched};
+ghost use Rattle.store_journal.specs.Opening.{IsMore, after_birth};
 
 use crate::area_text::{FRESH, fresh_area};
 use crate::commit::write_synced;

@@ -2,7 +2,8 @@
 
 ghost use Rattle.std.specs.Prelude.{◌≡◌, ◌<◌, ◌≤◌, ◌+◌, true, length, OnOk};
 ghost use Rattle.std.specs.Bool.{OnTrue};
-ghost use Rattle.store_journal.specs.Disk.{ChangesOnly, IsWithin, Spends, after_write, with_synced};
+ghost use Rattle.store_journal.specs.Costs.{Spends};
+ghost use Rattle.store_journal.specs.Disk.{ChangesOnly, IsWithin, after_write, with_synced};
 
 use crate::disk::LAST_END;
 use crate::unit::CLOSED;

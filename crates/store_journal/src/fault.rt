@@ -4,6 +4,7 @@ ghost use Rattle.std.specs.Prelude.{◌≡◌};
 ghost use Rattle.store_journal.specs.declared.fault.OpenFault.TheVariants.{Disk, Memory};
 
 use crate::{Area, DiskFailed};
+use kn_base::Memory as WantOfMemory;
 use std::alloc::AllocError;
 
 /// Why an opening, or the handing out of its payloads, stopped.
@@ -27,6 +28,14 @@ impl From<DiskFailed> for OpenFault {
 
     fn from(_failed: DiskFailed) -> OpenFault {
         OpenFault::Disk
+    }
+}
+
+impl From<WantOfMemory> for OpenFault {
+    ghost from_gives = { λ _ fault. fault ≡ Memory };
+
+    fn from(_memory: WantOfMemory) -> OpenFault {
+        OpenFault::Memory
     }
 }
 

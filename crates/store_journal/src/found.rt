@@ -4,7 +4,9 @@ ghost use Rattle.std.specs.Prelude.{◌≡◌, ℕ, drop, IfOk, IfErr, OnOk, Som
 ghost use Rattle.std.specs.Bool.{OnTrue};
 ghost use Rattle.store_journal.specs.Area.{picked, stands, payloads_in};
 ghost use Rattle.store_journal.specs.Disk.{octets_of};
-ghost use Rattle.store_journal.specs.Journal.{IsFound, IsCause, IsUnlessDisk, IsUntouched, Spares, synced_after};
+ghost use Rattle.store_journal.specs.Costs.{Spares};
+ghost use Rattle.store_journal.specs.Journal.{IsCause, IsUnlessDisk, IsUntouched, synced_after};
+ghost use Rattle.store_journal.specs.Opening.{IsFound};
 
 use crate::area_text::check;
 use crate::birth::bear;
@@ -47,7 +49,7 @@ fn load_area<D: Disk>(alloc: Global, disk: &mut D, area: Area) -> Result<Found, 
     ensures spares { Spares 2 (D.calls disk.old) (D.calls disk.new) (D.faults disk.old) (D.faults disk.new) result }
 {
     let octets = read_whole(alloc, disk, area)?;
-    match check(&octets) {
+    match check(area, &octets) {
         Ok((birth, end)) => Ok(Found {
             area,
             birth,
@@ -55,10 +57,7 @@ fn load_area<D: Disk>(alloc: Global, disk: &mut D, area: Area) -> Result<Found, 
             place: HEADER,
             end: end as u64,
         }),
-        Err(at) => Err(OpenFault::Foreign {
-            area,
-            at: at as u64,
-        }),
+        Err(fault) => Err(fault),
     }
 }
 

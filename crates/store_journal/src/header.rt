@@ -1,34 +1,40 @@
 //! The first octets of an area: a text and the birth of its store.
 
-ghost use Rattle.std.specs.Prelude.{◌≡◌, ◌≤◌, length, take, drop};
-ghost use Rattle.std.specs.Int.{w64, from_be_bytes};
-ghost use Rattle.store_journal.specs.Area.{header_front};
+ghost use Rattle.std.specs.Prelude.{◌≡◌};
+ghost use Rattle.exact_octets.specs.Reading.{Gives};
+ghost use Rattle.store_journal.specs.Area.{word_at as word_front, header_at as header_front};
+
+use exact_octets::{Numbers, ReadFault, number_at, octet_at};
 
 /// The text with which an area begins.
-pub const MAGIC: [u8; 8] = *b"KNBOX-01";
+const MAGIC: &[u8] = b"KNBOX-01";
 
-/// The octets of a header.
+/// How many octets a birth is written in.
+const BIRTH: usize = 8;
+
+/// How many octets a header has.
 pub const HEADER: usize = 16;
 
-/// How many octets at the front are a header's, up to the first that isn't.
-pub fn header_size(octets: &[u8]) -> usize
-    ensures { result ≡ header_front octets.now }
+// What stands behind a word.
+#[tactic(auto, unfolding(crate::specs::Area::word_at))]
+fn behind_word<'a>(octets: &'a [u8], word: &[u8]) -> Result<&'a [u8], ReadFault>
+    ensures { Gives (λ rest. (tt, rest.now)) result (word_front word.now octets.now) }
 {
-    'front: for (place, right) in MAGIC.iter().enumerate() {
-        if place >= octets.len() || octets[place] != *right {
-            return place;
+    match word {
+        [] => Ok(octets),
+        [octet, word @ ..] => {
+            let (_octet, rest) = octet_at(octets, *octet, *octet)?;
+            behind_word(rest, word)
         }
     }
-    octets.len().min(HEADER)
 }
 
-/// The birth that a header tells.
-pub fn told_birth(octets: &[u8]) -> u64
-    requires { 16 ≤ length octets.now }
-    ensures { result ≡ from_be_bytes w64 (take 8 (drop 8 octets.now)) }
+/// The birth that a header tells, and what stands behind the header.
+#[tactic(auto, unfolding(crate::specs::Area::header_at))]
+pub fn header_at(octets: &[u8]) -> Result<(u64, &[u8]), ReadFault>
+    ensures { Gives (λ x. (x.0, x.1.now)) result (header_front octets.now) }
 {
-    u64::from_be_bytes([
-        octets[8], octets[9], octets[10], octets[11], octets[12], octets[13], octets[14],
-        octets[15],
-    ])
+    let rest = behind_word(octets, MAGIC)?;
+    let (birth, rest) = number_at(rest, BIRTH, Numbers::from_to(0, u64::MAX))?;
+    Ok((birth, rest))
 }

@@ -9,7 +9,7 @@ ghost use Rattle.store_journal.specs.Journal.{IsJournal, IsKept, HoldsMore, Hold
 
 use crate::commit::{close_gate, write_synced};
 use crate::found::{Found, load};
-use crate::unit::{AROUND, payload_size, unit_and_gate};
+use crate::unit::{first_unit, unit_and_gate};
 use crate::{Area, Disk, DiskFailed, OpenFault};
 use kn_base::{Memory, Octets};
 use std::alloc::Global;
@@ -104,18 +104,12 @@ impl<D: Disk> Journal<D> {
         ensures kept { IsKept D.tells D.contents self.new }
         ensures same { HoldsSame D.tells D.contents self.old self.new }
     {
-        let Some(size) = payload_size(&self.octets[self.place..]) else {
+        let Some((payload, behind)) = first_unit(&self.octets[self.place..])? else {
             return Ok(None);
         };
-        let from = self.place + AROUND;
-        let octets = &self.octets[from..from + size];
-        match Octets::from_slice(self.alloc, octets) {
-            Ok(payload) => {
-                self.place = from + size;
-                Ok(Some(payload))
-            }
-            Err(Memory) => Err(OpenFault::Memory),
-        }
+        let payload = Octets::from_slice(self.alloc, payload)?;
+        self.place = self.octets.len() - behind.len();
+        Ok(Some(payload))
     }
 
     /// Appends the reserved payload in one write and one sync of the picked area, and takes no memory. Whatever

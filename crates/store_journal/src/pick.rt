@@ -3,7 +3,7 @@
 ghost use Rattle.std.specs.Prelude.{◌≡◌, IfOk, IfErr};
 ghost use Rattle.std.specs.Bool.{OnTrue};
 ghost use Rattle.store_journal.specs.Area.{picked};
-ghost use Rattle.store_journal.specs.Journal.{Spares};
+ghost use Rattle.store_journal.specs.Costs.{Spares};
 
 use crate::{Area, Disk, OpenFault};
 

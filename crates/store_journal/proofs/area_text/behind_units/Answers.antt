@@ -1,13 +1,17 @@
-use Rattle.std.proofs.Common.{drop, arith, ◌∙◌}
-use Rattle.store_journal.proofs.Units.{step, stop, length-units_none}
+use Rattle.std.proofs.Common.{ap, sym, ◌∙◌, List, ℕ}
+use Rattle.store_journal.specs.Opening.{IsFirstUnit}
+use Rattle.store_journal.proofs.Units.{unit_shorter}
 use Rattle.store_journal.proofs.area_text.behind_units.Goals as goal
+use Rattle.store_journal.proofs.area_text.behind_units.Goals.{In-Some}
+
+first : (c : In-Some) → IsFirstUnit c.units.rest.now c.in-Some._payload.now c.in-Some.behind.now
+first c = rw c.in-Some.is at c.in_ok-_payload.ensures
+
+pub units-smaller : goal.units-smaller
+units-smaller c = unit_shorter c.units.rest.now c.in-Some._payload.now c.in-Some.behind.now (first c)
 
 pub units-preserved : goal.units-preserved
-units-preserved c =
-    let s = step c.args.octets.now c.units.place c.in-Some.size c.units.invariant.inside c.in-Some.ensures.0 c.in-Some.ensures.1 in
-    record { inside = s.inside; same = c.units.invariant.same ∙ omega (arith, s.long) }
+units-preserved c = c.units.invariant ∙ (first c).rest
 
-pub returns-clause-place : goal.returns-clause-place
-returns-clause-place c =
-    let none = length-units_none (drop c.units.place c.args.octets.now) (stop c.args.octets.now c.units.place c.in_default.ensures) in
-    omega (arith, c.units.invariant.same, none)
+pub returns : goal.returns
+returns c = sym (c.units.invariant ∙ ap (λ (found : List (List ℕ) × List ℕ). found.1) (rw c.in_default.is at c.in_ok-_payload.ensures))

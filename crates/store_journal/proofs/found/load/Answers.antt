@@ -4,13 +4,13 @@ use Rattle.store_journal.specs.Area.{payloads_in, stands, unborn, IsStored, gate
 use Rattle.store_journal.specs.Disk.{Areas}
 use Rattle.store_journal.specs.Journal.{OpensAs}
 use Rattle.store_journal.specs.declared.area.Area.TheVariants.{A}
-use Rattle.store_journal.proofs.Units.{payloads_none}
+use Rattle.store_journal.proofs.Units.{no_payloads}
 use Rattle.store_journal.proofs.Texts.{opens_unborn, stored_none}
 use Rattle.store_journal.proofs.found.load.Goals as goal
 
 pub returns-in_ok-bear-in-None-clause-found : goal.returns-in_ok-bear-in-None-clause-found
 returns-in_ok-bear-in-None-clause-found g c =
-    let none : payloads_in c.new.result.items ≡ [] = ap payloads_in c.new.ensures.items ∙ payloads_none [] refl in
+    let none : payloads_in c.new.result.items ≡ [] = ap payloads_in c.new.ensures.items ∙ no_payloads in
     let now = g.D.Disk.contents c.bear.new.disk in
     let before = g.D.Disk.contents c.args.disk.now in
     record {

@@ -1,6 +1,6 @@
 use Rattle.std.proofs.Common.{List, ℕ, refl, arith, ap, sym, ◌∙◌, ◌≡◌, subst, drop}
 use Rattle.std.specs.Bool.{OnTrue}
-use Rattle.store_journal.specs.Area.{payloads_in, IsText, IsStored, units_end}
+use Rattle.store_journal.specs.Area.{gate_place, payloads_in, IsText, IsStored}
 use Rattle.store_journal.specs.Disk.{Areas, octets_of}
 use Rattle.store_journal.proofs.Texts.{stored_read, opens_read, foreign_read, place_within}
 use Rattle.store_journal.proofs.found.load_area.Goals as goal
@@ -18,12 +18,12 @@ returns-in-Ok-clause-found g c = λ birth.
       sizes = text.sizes;
       left = refl;
       place = omega (arith, place_within octets c.in-Ok.birth payloads text);
-      end = c.in-Ok.ensures.end ∙ ap units_end c.deref.ensures.value;
+      end = c.in-Ok.ensures.end ∙ ap (λ (l : List ℕ). gate_place (payloads_in (drop 16 l))) c.deref.ensures.value;
       stored = subst (λ (areas : Areas). OnTrue tells (IsStored areas c.args.area c.in-Ok.birth payloads)) (sym c.in_ok-octets.ensures.kept) stored;
       stood = opens_read tells before c.args.area birth c.in-Ok.birth payloads stored;
     }
 
 pub returns-in-Err-clause-cause : goal.returns-in-Err-clause-cause
 returns-in-Err-clause-cause g c =
-    foreign_read g.D.Disk.tells (g.D.Disk.contents c.args.disk.now) c.args.area c.deref.result.now c.in-Err.at c.in-Err.ensures.foreign c.requires
+    foreign_read g.D.Disk.tells (g.D.Disk.contents c.args.disk.now) c.args.area c.deref.result.now c.in-Err.fault c.in-Err.ensures.misfit c.requires
     (subst (λ (l : List ℕ). OnTrue g.D.Disk.tells (l ≡ octets_of (g.D.Disk.contents c.args.disk.now) c.args.area)) (sym c.deref.ensures.value) c.in_ok-octets.ensures.octets)
