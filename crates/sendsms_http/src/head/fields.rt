@@ -1,4 +1,4 @@
-//! What the fields of a head is_announced.
+//! What the fields of a head announce.
 
 ghost use Rattle.std.specs.Prelude.{◌≡◌, length, map, All};
 ghost use Rattle.std.specs.Str.{str_eq_ignore_ascii_case};
@@ -9,7 +9,7 @@ ghost use Rattle.sendsms_http.specs.HeadSteps as spec;
 
 use httparse::spans::HeaderSpan;
 
-/// What a field may is_announced.
+/// What a field may announce.
 #[derive(Clone, Copy)]
 pub(crate) enum Sign {
     /// The connection closes.
