@@ -1,7 +1,7 @@
 //! The program: reads the words, makes the machine's house and calls the command.
 #![tactic(auto)]
 
-use boxes_main::{Failure, HostHouse, House, door, status, tell};
+use boxes_main::{ConfigurationFault, Failure, HostHouse, House, door, status, tell};
 use kn_base::{Memory, Octets};
 use std::alloc::Global;
 use std::env;
@@ -41,7 +41,7 @@ fn run<R: Runtime + Files<File = File> + AllocGlobal + Copy>(rt: R) -> u8 {
     match read_words(&rt) {
         Ok(words) => door(rt.alloc(), &words, &mut house).status,
         Err(Memory) => {
-            let failure = Some(Failure::Memory);
+            let failure = Some(Failure::Configuration(ConfigurationFault::Memory));
             tell(house.errors(), failure);
             status(failure)
         }

@@ -1,4 +1,6 @@
-pub mod Handing
+pub mod Accepting
+pub mod Commits
+pub mod DoorLemmas
 pub mod Loading
 pub mod Opening
 pub mod Sessions

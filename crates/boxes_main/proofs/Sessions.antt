@@ -1,75 +1,106 @@
 -- A session that was served, and what the command makes of it.
-use Rattle.std.proofs.Common.{◌≡◌, ℕ, Bool, true, false, List, [], ◌∷◌, ◌++◌, Option, Some, None, inl, inr, refl, ap, ◌∙◌}
-use Rattle.std.specs.Prelude.{IfSome, IsSomeAnd, is_some}
-use Rattle.kn_base.specs.Course.{Course, with_more}
-use Rattle.kn_base.specs.Talk.{said_of, heard_of}
-use Rattle.kn_base.specs.declared.piece.Piece.{Piece}
-use Rattle.sendsms_http.specs.Deeds.{Deed}
-use Rattle.sendsms_http.specs.Session.{HttpTalk, IsCaused, AddsAll}
-use Rattle.sendsms_http.specs.declared.ending.HttpEnd.{HttpEnd}
-use Rattle.sendsms_http.specs.declared.ending.HttpEnd.TheVariants as end_is
+use Rattle.std.proofs.Common.{◌≡◌, ℕ, Bool, true, false, List, [], ◌∷◌, ◌++◌, Option, Some, None, refl, ap, sym, ◌∙◌, subst}
+use Rattle.std.specs.Prelude.{IfSome, option_map}
+use Rattle.std.specs.Bool.{OnTrue}
+use Rattle.kn_base.specs.Count.{Rose}
+use Rattle.kn_base.specs.Course.{Course}
+use Rattle.sendsms_http.specs.Acceptor.{Deed}
+use Rattle.sendsms_http.specs.Session.{AddsAll, Talks}
+use Rattle.sendsms_http.specs.declared.http_end.HttpEnd.{HttpEnd}
 use Rattle.store_journal.specs.Area.{stands}
 use Rattle.store_journal.specs.Disk.{Areas}
-use Rattle.boxes_main.specs.Accepts.{Accept, StandsFor}
+use Rattle.sms_record.specs.declared.entry.accept.Accept.{Accept}
+use Rattle.boxes_main.specs.Accepts.{StandsFor}
 use Rattle.boxes_main.specs.Deeds.{Leads, done_of}
-use Rattle.boxes_main.specs.Door.{Session, HasFailed, failure_by}
-use Rattle.boxes_main.specs.House.{IsNewClock}
-use Rattle.boxes_main.specs.Store.{IsStore, is_store_broken}
-use Rattle.boxes_main.specs.declared.failure.Failure.TheVariants as failure_is
+use Rattle.boxes_main.specs.Door.{Commits, IsSession, IsServed, fault_by}
+use Rattle.boxes_main.specs.DoorSteps.{ServesOne}
+use Rattle.boxes_main.specs.Failure.{status_of}
+use Rattle.boxes_main.specs.House.{Rooms, Stock, IsToldWord}
+use Rattle.boxes_main.specs.Store.{IsStore, IsOpened, disk_in, is_store_broken}
+use Rattle.boxes_main.specs.Worker.{Worker}
+use Rattle.boxes_main.specs.declared.command_end.Role.TheVariants as role_is
+use Rattle.boxes_main.specs.declared.command_end.SessionEnd.TheVariants as ended_as
+use Rattle.boxes_main.specs.declared.failure.Failure.{Failure}
+use Rattle.boxes_main.specs.declared.failure.Failure.TheVariants.{Session}
 use Rattle.boxes_main.specs.declared.store.Store.{Store}
-
--- a connection fault has its cause in a count of the visitor
-pub connection_caused : (broken : Bool) (end : HttpEnd) (old new : Course) → failure_by broken end ≡ Some failure_is.Connection
-    → IsCaused end old new → HasFailed old new
-connection_caused true end old new is caused = absurd cc
-connection_caused false end_is.End old new is caused = absurd cc
-connection_caused false end_is.Fault old new is caused = inl caused
-connection_caused false end_is.Quiet old new is caused = inr caused
-connection_caused false end_is.Memory old new is caused = absurd cc
-
--- the item that was put into a vector without any
-pub first_item : {A : Type 0} {items after before : List A} {x : A} → items ≡ after → after ≡ before ++ x ∷ [] → before ≡ [] → items ≡ x ∷ []
-first_item {x = x} same put none = same ∙ put ∙ ap (λ xs. xs ++ x ∷ []) none
+use Rattle.boxes_main.proofs.Commits.{reasoned, spared, unfailed, gained, broke}
+use Rattle.boxes_main.proofs.Opening.{told_weaker}
 
 -- a clock that wasn't read before was read so and no more
-pub new_readings : (readings : List ℕ) (old new : Option (List ℕ)) → IsNewClock old → AddsAll readings old new → IfSome new (λ all. all ≡ readings)
+new_readings : (readings : List ℕ) (old new : Option (List ℕ)) → IfSome old (λ so_far. so_far ≡ []) → AddsAll readings old new → IfSome new (λ all. all ≡ readings)
 new_readings readings old None none adds = tt
 new_readings readings (Some old) (Some all) none adds = let was : old ≡ adds.0 = cc in let more : all ≡ adds.0 ++ readings = adds.2 in cc
 new_readings readings None (Some all) none adds = absurd cc
 
--- what holds of contents that are still told
-pub still_told : (before now : Option Areas) (P : Areas → Type 0) → is_some now ≡ is_some before → IfSome now P → IfSome before (λ _. IsSomeAnd now P)
-still_told None now P same holds = tt
-still_told (Some old) None P same holds = absurd cc
-still_told (Some old) (Some new) P same holds = holds
+module _ {D : Type 0} (tells : Bool) (contents : D → Areas) (faults : D → ℕ) where
+  -- what deeds on a store that was opened leave on its disk, by whether it broke
+  commits_by : (store later : Store D) (deeds : List Deed) (areas : Areas) (birth : ℕ) (disk : D) (is : IsOpened tells contents faults areas 0 birth store)
+      → Leads tells contents faults store deeds later → disk ≡ disk_in later
+      → ((b : ℕ) (all : List Accept) → IsStore tells contents later b all → OnTrue tells (StandsFor (stands (contents disk)) b all))
+      → (broken : Bool) → is_store_broken later ≡ broken → Commits tells contents faults broken is.there is.accepts deeds disk
+  commits_by store later deeds areas birth disk is led same stand true broken =
+      let went = broke tells contents faults store later deeds led is.holds.journal.whole broken in
+      (went.0, subst (λ n. Rose n (faults disk)) is.unfailed (subst (λ d. Rose (faults (disk_in store)) (faults d)) (sym same) went.1))
+  commits_by store later deeds areas birth disk is led same stand false whole = (
+    spared tells contents faults store later deeds led whole,
+    ap faults same ∙ (unfailed tells contents faults store later deeds led whole ∙ is.unfailed),
+    stand is.there (is.accepts ++ done_of deeds) (gained tells contents faults store later deeds led whole is.there is.accepts is.holds),
+  )
 
--- what a session leaves, by whether the store broke in it
-pub session_of : {D : Type 0} (contents : D → Option Areas) (faults : D → ℕ) (store later : Store D) (birth : ℕ) (accepts : List Accept)
-    (old new : Course) (readings : List ℕ) (pieces : List Piece) (deeds : List Deed) (disk : D) (broken : Bool) (end : HttpEnd)
-    → IsStore contents store birth accepts → Leads contents faults store deeds later → is_store_broken later ≡ broken
-    → new.talk ≡ with_more old.talk pieces → HttpTalk (heard_of pieces) (said_of pieces) new.ended readings deeds end → IsCaused end old new
-    → ((b : ℕ) (all : List Accept) → IsStore contents later b all → IfSome (contents disk) (λ areas. StandsFor (stands areas) b all))
-    → (told : Option Areas) → is_some (contents disk) ≡ is_some told → Session contents told birth accepts old new readings disk (failure_by broken end) end
-session_of contents faults store later birth accepts old new readings pieces deeds disk true end is led whole talk session caused stand told tells = record {
-  pieces = pieces;
-  deeds = deeds;
-  talk = talk;
-  session = session;
-  caused = caused;
-  ended = λ other. absurd (other refl);
-  stored = λ other. absurd (other refl);
-  spared = λ other. absurd (other refl);
-  reasoned = λ other. absurd (other refl);
-}
-session_of contents faults store later birth accepts old new readings pieces deeds disk false end is led whole talk session caused stand told tells = record {
-  pieces = pieces;
-  deeds = deeds;
-  talk = talk;
-  session = session;
-  caused = caused;
-  ended = λ _. refl;
-  stored = λ _. still_told told (contents disk) (λ areas. StandsFor (stands areas) birth (accepts ++ done_of deeds)) tells
-      (stand birth (accepts ++ done_of deeds) (led.gains whole birth accepts is));
-  spared = λ _. led.spared whole;
-  reasoned = λ _. led.reasoned whole birth accepts is;
-}
+  -- the session over a store that was opened
+  pub session_by : (store later : Store D) (old new : Course) (readings : List ℕ) (deeds : List Deed) (end : HttpEnd) (disk : D)
+      → Talks old new readings deeds end → Leads tells contents faults store deeds later → disk ≡ disk_in later
+      → ((b : ℕ) (all : List Accept) → IsStore tells contents later b all → OnTrue tells (StandsFor (stands (contents disk)) b all))
+      → (areas : Areas) (word : Option ℕ) (birth : ℕ) → IsToldWord word birth → IsOpened tells contents faults areas 0 birth store
+      → IsSession tells contents faults areas word old new readings end disk (fault_by (is_store_broken later) end)
+  session_by store later old new readings deeds end disk talks led same stand areas word birth told is = record {
+    birth = is.there;
+    accepts = is.accepts;
+    each = is.holds.each;
+    stood = is.stood;
+    born = told_weaker tells _ _ (λ f unborn. subst (λ n. IsToldWord word n) (sym (f unborn)) told) is.born;
+    deeds = deeds;
+    talks = talks;
+    reasoned = reasoned tells contents faults store later deeds led is.there is.accepts is.holds;
+    broken = is_store_broken later;
+    commits = commits_by store later deeds areas birth disk is led same stand (is_store_broken later) refl;
+    failed = refl;
+  }
+
+module _
+    {V S E D C : Type 0} (course : V → Course)
+    (files : S → Option (List (List ℕ × List ℕ))) (calls shelf_faults : S → ℕ)
+    (tells : Bool) (contents : D → Areas) (faults : D → ℕ) (readings_of : C → Option (List ℕ))
+    (old mid new : Rooms V S E) (before between after : Stock) (peer : V) (store later : Store D) (clock clock_later : C)
+    (readings : List ℕ) (deeds : List Deed) (end : HttpEnd) (disk : D) (workers : List (Worker C)) where
+  -- a session that was served on the house's visitor, with a clock of it
+  pub serves_by : mid ≡ old → new ≡ record mid { visitor = peer } → between ≡ before → after ≡ between
+      → (status : ℕ) (failure : Option Failure) → status ≡ status_of failure → failure ≡ option_map Session (fault_by (is_store_broken later) end)
+      → workers ≡ record { role = role_is.Http; clock = Some clock_later; ends = ended_as.Http end ∷ [] } ∷ []
+      → IfSome (readings_of clock) (λ so_far. so_far ≡ []) → AddsAll readings (readings_of clock) (readings_of clock_later)
+      → Talks (course mid.visitor) (course peer) readings deeds end → Leads tells contents faults store deeds later → disk ≡ disk_in later
+      → ((b : ℕ) (all : List Accept) → IsStore tells contents later b all → OnTrue tells (StandsFor (stands (contents disk)) b all))
+      → ServesOne course files calls shelf_faults tells contents faults readings_of old new before after store status failure (Some disk) workers
+  serves_by first lent same stays status failure right failed left new_clock read talks led same_disk stand =
+      let rooms : new ≡ record old { visitor = peer } = subst (λ (r : Rooms V S E). new ≡ record r { visitor = peer }) first lent in
+      let others : new ≡ record old { visitor = new.visitor } = subst (λ (v : V). new ≡ record old { visitor = v }) (sym (ap (λ r. r.visitor) rooms)) rooms in
+      record {
+        others = others;
+        stock = stays ∙ same;
+        right = right;
+        fault = fault_by (is_store_broken later) end;
+        failed = failed;
+        served = λ areas word birth told is. record {
+          readings = readings;
+          end = end;
+          worker = record { role = role_is.Http; clock = Some clock_later; ends = ended_as.Http end ∷ [] };
+          alone = left;
+          left = record { role = refl; clock = new_readings readings (readings_of clock) (readings_of clock_later) new_clock read; ends = refl };
+          after = disk;
+          handed_back = refl;
+          session = session_by tells contents faults store later (course old.visitor) (course new.visitor) readings deeds end disk
+              (subst (λ (v : V). Talks (course old.visitor) (course v) readings deeds end) (sym (ap (λ r. r.visitor) rooms))
+              (subst (λ (r : Rooms V S E). Talks (course r.visitor) (course peer) readings deeds end) first talks))
+              led same_disk stand areas word birth told is;
+        };
+      }

@@ -1,28 +1,17 @@
--- The words of the command, and what may go wrong with a configuration.
-use Rattle.std.specs.Prelude.{◌≡◌, ◌≢◌, ℕ, List, [], ◌∷◌, codes, bytes_eq, Option, Some, None, IfSome, if◌then◌else◌}
+-- What may come of a configuration.
+use Rattle.std.specs.Prelude.{◌≡◌, ◌≢◌, ℕ, List, Option, Some, IfSome}
+use Rattle.kn_base.specs.Count.{Rose}
 use Rattle.kn_base.specs.Shelf.{text_of}
-use Rattle.boxes_main.specs.declared.failure.Failure.{Failure}
-use Rattle.boxes_main.specs.declared.failure.Failure.TheVariants.{Usage, CannotRead, NotBuilt, Foreign, Disk, Connection, Memory}
+use Rattle.boxes_main.specs.declared.configuration.ConfigurationFault.{ConfigurationFault}
+use Rattle.boxes_main.specs.declared.configuration.ConfigurationFault.TheVariants.{CannotRead, NotBuilt, Memory}
 
--- the name of a configuration, behind the word `door`; other words name none
-abbrev pub configuration_of : List (List ℕ) → Option (List ℕ)
-configuration_of (command ∷ name ∷ []) = if bytes_eq command (codes "door") then Some name else None
-configuration_of words = None
+-- the file of that name has this text, where files are told
+abbrev pub HasText : Option (List (List ℕ × List ℕ)) → List ℕ → List ℕ → Type 0
+HasText files name text = IfSome files (λ files. text_of name files ≡ Some text)
 
--- what may go wrong with a configuration
-abbrev pub IsOfConfiguration : Failure → Type 0
-IsOfConfiguration CannotRead = Unit {0}
-IsOfConfiguration NotBuilt = Unit {0}
-IsOfConfiguration Memory = Unit {0}
-IsOfConfiguration Usage = ⊥
-IsOfConfiguration Foreign = ⊥
-IsOfConfiguration Disk = ⊥
-IsOfConfiguration Connection = ⊥
-
--- the file of the configuration has this text
-abbrev pub IsConfigured : Option (List ℕ) → List (List ℕ × List ℕ) → List ℕ → Type 0
-IsConfigured name files text = IfSome name (λ name. text_of name files ≡ Some text)
-
--- the file of the configuration has another text, or isn't there
-abbrev pub IsOther : Option (List ℕ) → List (List ℕ × List ℕ) → List ℕ → Type 0
-IsOther name files text = IfSome name (λ name. text_of name files ≢ Some text)
+-- why a configuration isn't taken that is to have this text: its file can't be read, which is counted, or has another text, or
+-- memory was wanting
+abbrev pub IsRefused : Option (List (List ℕ × List ℕ)) → List ℕ → List ℕ → ℕ → ℕ → ConfigurationFault → Type 0
+IsRefused files name text before now CannotRead = Rose before now
+IsRefused files name text before now NotBuilt = IfSome files (λ files. text_of name files ≢ Some text)
+IsRefused files name text before now Memory = Unit {0}

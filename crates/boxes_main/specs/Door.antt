@@ -1,128 +1,104 @@
 -- What the command `door` comes to.
-use Rattle.std.specs.Prelude.{◌≡◌, ◌≢◌, ◌⊎◌, ℕ, ◌<◌, Bool, true, false, List, [], ◌∷◌, ◌++◌, All, Option, Some, None, IfSome, Vec, vec_len, vec_capacity}
-use Rattle.std.specs.declared.alloc.Global.{Global}
-use Rattle.kn_base.specs.Count.{Rose}
-use Rattle.kn_base.specs.Course.{Course, with_more}
-use Rattle.kn_base.specs.Talk.{said_of, heard_of}
-use Rattle.kn_base.specs.declared.piece.Piece.{Piece}
-use Rattle.sendsms_http.specs.Deeds.{Deed}
-use Rattle.sendsms_http.specs.Session.{HttpTalk, IsCaused}
-use Rattle.sendsms_http.specs.declared.ending.HttpEnd.{HttpEnd}
-use Rattle.sendsms_http.specs.declared.ending.HttpEnd.TheVariants as end_is
-use Rattle.store_journal.specs.Area.{stands}
+use Rattle.std.specs.Prelude.{◌≡◌, ◌≢◌, ℕ, Bool, true, false, List, [], ◌∷◌, ◌++◌, All, Option, Some, None, IfSome, IsSomeAnd, MatchOption}
+use Rattle.std.specs.Bool.{OnTrue}
+use Rattle.kn_base.specs.Count.{Rose, next_count}
+use Rattle.kn_base.specs.Course.{Course}
+use Rattle.sendsms_http.specs.Acceptor.{Deed, IsSpared}
+use Rattle.sendsms_http.specs.Session.{Talks}
+use Rattle.sendsms_http.specs.declared.http_end.HttpEnd.{HttpEnd}
+use Rattle.sendsms_http.specs.declared.http_end.HttpEnd.TheVariants as end_is
+use Rattle.store_journal.specs.Area.{stands, unborn}
 use Rattle.store_journal.specs.Disk.{Areas}
-use Rattle.boxes_main.specs.Accepts.{Accept, IsEntry, StandsFor, IsLeftWith, IsLeftAlone}
-use Rattle.boxes_main.specs.declared.store.StoreFault.{StoreFault}
-use Rattle.boxes_main.specs.declared.store.StoreFault.TheVariants as fault_is
-use Rattle.boxes_main.specs.Deeds.{done_of, IsSpared, AreReasoned}
-use Rattle.boxes_main.specs.House.{Rooms}
+use Rattle.sms_record.specs.declared.entry.accept.Accept.{Accept}
+use Rattle.sms_record.specs.Entry.{IsAccept}
+use Rattle.boxes_main.specs.Accepts.{StandsFor}
+use Rattle.boxes_main.specs.Configuration.{HasText, IsRefused}
+use Rattle.boxes_main.specs.Deeds.{done_of, AreReasoned}
+use Rattle.boxes_main.specs.House.{IsToldWord}
+use Rattle.boxes_main.specs.Store.{IsUnopened}
 use Rattle.boxes_main.specs.Worker.{Worker, IsHttpWorker}
+use Rattle.boxes_main.specs.declared.configuration.TheConstants.{BASE}
 use Rattle.boxes_main.specs.declared.failure.Failure.{Failure}
-use Rattle.boxes_main.specs.declared.failure.Failure.TheVariants.{Usage, CannotRead, NotBuilt, Foreign, Disk, Connection, Memory}
+use Rattle.boxes_main.specs.declared.failure.Failure.TheVariants.{Usage, Configuration, Store, Session}
+use Rattle.boxes_main.specs.declared.session.SessionFault.{SessionFault}
+use Rattle.boxes_main.specs.declared.session.SessionFault.TheVariants.{Disk, Connection, Memory}
+use Rattle.boxes_main.specs.declared.store.StoreFault.TheVariants as store_is
 
--- what goes wrong first: the disk in the commit, or else the session
-abbrev pub failure_by : Bool → HttpEnd → Option Failure
-failure_by true end = Some Disk
-failure_by false end_is.End = None
-failure_by false end_is.Fault = Some Connection
-failure_by false end_is.Quiet = Some Connection
-failure_by false end_is.Memory = Some Memory
+module _ {S : Type 0} (files : S → Option (List (List ℕ × List ℕ))) (calls faults : S → ℕ) where
+  -- the shelf was asked once for the file that the words name, and something holds of its name
+  abbrev pub AsksFor : Option (List ℕ) → S → S → (List ℕ → Type 0) → Type 0
+  AsksFor name old new Holds = (calls new ≡ next_count (calls old)) × IsSomeAnd name Holds
 
--- The session that was served over a store of this birth with these entries. What was said answers what was heard. Each end
--- but a whole answer has its count of the visitor behind it. Unless the disk failed, the disk that is handed back stands for
--- the same store with these entries and, behind them, those of the messages that were accepted.
-pub record Session
-    {D : Type 0} (contents : D → Option Areas) (told : Option Areas) (birth : ℕ) (accepts : List Accept) (old new : Course)
-    (readings : List ℕ) (disk : D) (failed : Option Failure) (end : HttpEnd) : Type 0 where
-  pub pieces : List Piece
-  pub deeds : List Deed
-  pub talk : new.talk ≡ with_more old.talk pieces
-  pub session : HttpTalk (heard_of pieces) (said_of pieces) new.ended readings deeds end
-  pub caused : IsCaused end old new
-  pub ended : failed ≢ Some Disk → failed ≡ failure_by false end
-  pub stored : failed ≢ Some Disk → IsLeftWith told (contents disk) birth (accepts ++ done_of deeds)
-  pub spared : failed ≢ Some Disk → All IsSpared deeds
-  pub reasoned : failed ≢ Some Disk → AreReasoned accepts deeds
+  -- the shelf was asked once, and the file that the words name has the text of the configuration
+  abbrev pub IsConfigured : Option (List ℕ) → S → S → Type 0
+  IsConfigured name old new = AsksFor name old new (λ name. HasText (files old) name BASE.now)
 
--- what a house lends stays, but for its visitor
-abbrev pub KeepsOthers : {V S E : Type 0} → Rooms V S E → Rooms V S E → Type 0
-KeepsOthers old new = new ≡ record old { visitor = new.visitor }
+  -- what the shelf was asked, by what went wrong: nothing where the words name no configuration, and else for the file that they
+  -- name, once
+  abbrev pub Asks : Option (List ℕ) → S → S → Option Failure → Type 0
+  Asks name old new (Some Usage) = (name ≡ None) × (new ≡ old)
+  Asks name old new (Some (Configuration fault)) = AsksFor name old new (λ name. IsRefused (files old) name BASE.now (faults old) (faults new) fault)
+  Asks name old new (Some (Store fault)) = IsConfigured name old new
+  Asks name old new (Some (Session fault)) = IsConfigured name old new
+  Asks name old new None = IsConfigured name old new
 
--- two vectors have no item, and room for one
-pub record HasRoom {A B : Type 0} (ends : Vec A Global) (workers : Vec B Global) : Type 0 where
-  pub no_ends : ends.items ≡ []
-  pub no_workers : workers.items ≡ []
-  pub end_room : vec_len ends < vec_capacity ends
-  pub worker_room : vec_len workers < vec_capacity workers
+-- what goes wrong first in a session: the disk in the commit, or else the connection or the memory for it
+abbrev pub fault_by : Bool → HttpEnd → Option SessionFault
+fault_by true end = Some Disk
+fault_by false end_is.End = None
+fault_by false end_is.Fault = Some Connection
+fault_by false end_is.Quiet = Some Connection
+fault_by false end_is.Memory = Some Memory
 
--- a count of faults or of quiets of the visitor rose
-abbrev pub HasFailed : Course → Course → Type 0
-HasFailed old new = Rose old.faults new.faults ⊎ Rose old.quiets new.quiets
+-- No session was served: nothing was said, and no worker left anything.
+pub record IsUnserved {V C : Type 0} (old new : V) (workers : List (Worker C)) : Type 0 where
+  pub unvisited : new ≡ old
+  pub no_worker : workers ≡ []
 
--- what may go wrong in a session over an open store
-abbrev pub IsOfSession : Option Failure → Type 0
-IsOfSession None = Unit {0}
-IsOfSession (Some Usage) = ⊥
-IsOfSession (Some CannotRead) = ⊥
-IsOfSession (Some NotBuilt) = ⊥
-IsOfSession (Some Foreign) = ⊥
-IsOfSession (Some Disk) = Unit {0}
-IsOfSession (Some Connection) = Unit {0}
-IsOfSession (Some Memory) = Unit {0}
+module _ {D : Type 0} (tells : Bool) (contents : D → Areas) (faults : D → ℕ) where
+  -- What a session's deeds left on the disk. Where a call of it failed in the commit, not all deeds are spared. Else all are, no
+  -- call failed, and the disk stands for the entries that were there and, behind them, those of the deeds that were done.
+  abbrev pub Commits : Bool → ℕ → List Accept → List Deed → D → Type 0
+  Commits true birth accepts deeds disk = ¬ (All IsSpared deeds) × Rose 0 (faults disk)
+  Commits false birth accepts deeds disk =
+      All IsSpared deeds × (faults disk ≡ 0) × OnTrue tells (StandsFor (stands (contents disk)) birth (accepts ++ done_of deeds))
 
--- what may go wrong behind the configuration
-abbrev pub IsOfStore : Option Failure → Type 0
-IsOfStore None = Unit {0}
-IsOfStore (Some Usage) = ⊥
-IsOfStore (Some CannotRead) = ⊥
-IsOfStore (Some NotBuilt) = ⊥
-IsOfStore (Some Foreign) = Unit {0}
-IsOfStore (Some Disk) = Unit {0}
-IsOfStore (Some Connection) = Unit {0}
-IsOfStore (Some Memory) = Unit {0}
+  -- A session that was served over the store that the areas stood for, of this birth with these entries; a store that wasn't born
+  -- was born with the house's word. Each outcome has its reason in the entries before it.
+  pub record IsSession
+      (areas : Areas) (word : Option ℕ) (old new : Course) (readings : List ℕ) (end : HttpEnd) (disk : D) (fault : Option SessionFault) : Type 0 where
+    pub birth : ℕ
+    pub accepts : List Accept
+    pub each : All IsAccept accepts
+    pub stood : OnTrue tells (StandsFor (stands areas) birth accepts)
+    pub born : OnTrue tells (stands areas ≡ unborn → IsToldWord word birth)
+    pub deeds : List Deed
+    pub talks : Talks old new readings deeds end
+    pub reasoned : AreReasoned accepts deeds
+    pub broken : Bool
+    pub commits : Commits broken birth accepts deeds disk
+    pub failed : fault ≡ fault_by broken end
 
--- the configuration was read and taken
-abbrev pub IsPastConfiguration : Option Failure → Type 0
-IsPastConfiguration None = Unit {0}
-IsPastConfiguration (Some Usage) = ⊥
-IsPastConfiguration (Some CannotRead) = ⊥
-IsPastConfiguration (Some NotBuilt) = ⊥
-IsPastConfiguration (Some Foreign) = Unit {0}
-IsPastConfiguration (Some Disk) = Unit {0}
-IsPastConfiguration (Some Connection) = Unit {0}
-IsPastConfiguration (Some Memory) = ⊥
+module _ {D C : Type 0} (tells : Bool) (contents : D → Areas) (faults : D → ℕ) (readings_of : C → Option (List ℕ)) where
+  -- A session was served, and is all that one worker left.
+  pub record IsServed
+      (areas : Areas) (word : Option ℕ) (old new : Course) (workers : List (Worker C)) (disk : Option D) (fault : Option SessionFault) : Type 0 where
+    pub readings : List ℕ
+    pub end : HttpEnd
+    pub worker : Worker C
+    pub alone : workers ≡ worker ∷ []
+    pub left : IsHttpWorker readings_of worker readings end
+    pub after : D
+    pub handed_back : disk ≡ Some after
+    pub session : IsSession tells contents faults areas word old new readings end after fault
 
--- the command ended before it asked for a store
-abbrev pub IsEarly : Option Failure → Type 0
-IsEarly None = ⊥
-IsEarly (Some Usage) = Unit {0}
-IsEarly (Some CannotRead) = Unit {0}
-IsEarly (Some NotBuilt) = Unit {0}
-IsEarly (Some Foreign) = ⊥
-IsEarly (Some Disk) = ⊥
-IsEarly (Some Connection) = ⊥
-IsEarly (Some Memory) = ⊥
-
--- why an opening that failed ends the command
-abbrev pub failure_to_open : StoreFault → Failure
-failure_to_open fault_is.Foreign = Foreign
-failure_to_open fault_is.Disk = Disk
-failure_to_open fault_is.Memory = Memory
-
--- nothing was said, and no worker left anything
-abbrev pub IsUnserved : {V S E W : Type 0} → Rooms V S E → Rooms V S E → List W → Type 0
-IsUnserved old new workers = (workers ≡ []) × (new.visitor ≡ old.visitor)
-
--- Either no session was served and nothing was said, which comes only with a failure and unless the disk failed loses nothing
--- of what was stored, or one was, over the store that the disk stood for.
-pub data Served
-    {D C : Type 0} (contents : D → Option Areas) (readings_of : C → Option (List ℕ)) (told : Option Areas) (old new : Course)
-    (workers : List (Worker C)) (disk : Option D) (failed : Option Failure) : Type 0 where
-  unserved : workers ≡ [] → new ≡ old → failed ≢ None → failed ≢ Some Connection
-      → (failed ≢ Some Disk → IfSome disk (λ after. IsLeftAlone told (contents after)))
-      → Served contents readings_of told old new workers disk failed
-  served : (birth : ℕ) → (accepts : List Accept) → All IsEntry accepts → IfSome told (λ areas. StandsFor (stands areas) birth accepts)
-      → (after : D) → disk ≡ Some after → (end : HttpEnd) → (readings : List ℕ)
-      → Session contents told birth accepts old new readings after failed end
-      → (worker : Worker C) → workers ≡ worker ∷ [] → IsHttpWorker readings_of worker readings end
-      → Served contents readings_of told old new workers disk failed
+  -- What the command comes to, by what went wrong, over a house whose disk reads as these areas and whose word is this: a session,
+  -- or none, because the words, the configuration or the store were refused. Without a disk only memory can have been wanting.
+  abbrev pub ComesTo : {V : Type 0} → (V → Course) → Areas → Option ℕ → V → V → List (Worker C) → Option D → Option Failure → Type 0
+  ComesTo course areas word old new workers disk None = IsServed areas word (course old) (course new) workers disk None
+  ComesTo course areas word old new workers disk (Some Usage) = IsUnserved old new workers × (disk ≡ None)
+  ComesTo course areas word old new workers disk (Some (Configuration fault)) = IsUnserved old new workers × (disk ≡ None)
+  ComesTo course areas word old new workers disk (Some (Store fault)) = IsUnserved old new workers
+      × MatchOption disk (fault ≡ store_is.Memory)
+      (λ disk. (birth : ℕ) × IsToldWord word birth × IsUnopened tells contents faults areas 0 birth disk fault)
+  ComesTo course areas word old new workers disk (Some (Session fault)) = IsServed areas word (course old) (course new) workers disk (Some fault)

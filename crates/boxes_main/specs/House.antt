@@ -1,5 +1,7 @@
 -- What a house shows of itself, and what it hands out.
-use Rattle.std.specs.Prelude.{◌≡◌, ℕ, List, [], Option, IfSome}
+use Rattle.std.specs.Prelude.{◌≡◌, ℕ, Bool, List, [], Option, Some, None, IfSome}
+use Rattle.std.specs.Bool.{OnTrue}
+use Rattle.kn_base.specs.Count.{next_count}
 use Rattle.store_journal.specs.Disk.{Areas}
 
 -- what a house lends: the visitor on standard input and output, the files, and standard error
@@ -8,12 +10,33 @@ pub record Rooms (V S E : Type 0) : Type 0 where
   pub shelf : S
   pub errors : E
 
--- A disk that has made no call and reads as stated.
-pub record IsNewDisk (told : Option Areas) (calls faults : ℕ) (stated : Option Areas) : Type 0 where
-  pub reads : told ≡ stated
+-- What a house hands out: what its disk under a name reads as, the birth of a store that isn't born, where that is told, and
+-- how many disks it has made.
+pub record Stock : Type 0 where
+  pub disks : List ℕ → Areas
+  pub word : Option ℕ
+  pub made : ℕ
+
+-- the stock where one disk more was made
+abbrev pub MakesOne : Stock → Stock → Type 0
+MakesOne old new = new ≡ record old { disks = new.disks; made = next_count old.made }
+
+-- the stock of a house, by whether a disk of it is there: one was made, or none
+abbrev pub MakesFor : {D : Type 0} → Option D → Stock → Stock → Type 0
+MakesFor None old new = new ≡ old
+MakesFor (Some disk) old new = MakesOne old new
+
+-- A disk that has made no call and, where it tells its contents, reads as stated.
+pub record IsNewDisk (tells : Bool) (contents : Areas) (calls faults : ℕ) (stated : Areas) : Type 0 where
+  pub reads : OnTrue tells (contents ≡ stated)
   pub no_calls : calls ≡ 0
   pub no_faults : faults ≡ 0
 
--- where its readings are told, the clock has none yet
-abbrev pub IsNewClock : Option (List ℕ) → Type 0
-IsNewClock readings = IfSome readings (λ so_far. so_far ≡ [])
+-- A clock that wasn't read yet: where its readings are told, it has none.
+pub record IsNewClock (readings : Option (List ℕ)) (latest : ℕ) : Type 0 where
+  pub unread : IfSome readings (λ so_far. so_far ≡ [])
+  pub no_latest : latest ≡ 0
+
+-- a number is the one that was told, where one was
+abbrev pub IsToldWord : Option ℕ → ℕ → Type 0
+IsToldWord told word = IfSome told (λ it. word ≡ it)

@@ -1,16 +1,31 @@
 -- What a house in memory shows.
-use Rattle.std.specs.Prelude.{ℕ, List, Option}
+use Rattle.std.specs.Prelude.{◌≡◌, ℕ, List, [], ◌∷◌, Some}
+use Rattle.kn_base.specs.MemClock.{answers_of}
+use Rattle.kn_base.specs.declared.mem_clock.MemClock.{MemClock}
 use Rattle.kn_base.specs.declared.mem_peer.MemPeer.{MemPeer}
 use Rattle.kn_base.specs.declared.mem_shelf.MemShelf.{MemShelf}
-use Rattle.store_journal.specs.Disk.{Areas}
-use Rattle.boxes_main.specs.House.{Rooms}
-use Rattle.boxes_main.specs.Disks.{areas_under}
+use Rattle.store_journal.specs.declared.mem_disk.MemDisk.{MemDisk}
+use Rattle.boxes_main.specs.House.{Rooms, Stock}
+use Rattle.boxes_main.specs.Disks.{disk_under, areas_in}
 use Rattle.boxes_main.specs.declared.mem_house.MemHouse.{MemHouse}
 
 -- what it lends
 abbrev pub mem_rooms : MemHouse → Rooms MemPeer MemShelf MemPeer
 mem_rooms h = record { visitor = h.visitor; shelf = h.shelf; errors = h.errors }
 
--- what its disk under a name reads as
-abbrev pub mem_disks : MemHouse → List ℕ → Option Areas
-mem_disks h name = areas_under name h.disks.items
+-- what it hands out
+abbrev pub mem_stock : MemHouse → Stock
+mem_stock h = record { disks = λ name. areas_in (disk_under name h.disks.items); word = Some h.word; made = h.made }
+
+-- the clocks that it hasn't handed out
+abbrev pub clocks_of : MemHouse → List MemClock
+clocks_of h = h.clocks.items
+
+-- the answers of the first of some clocks, and none where there is none
+abbrev pub next_answers : List MemClock → List ℕ
+next_answers [] = []
+next_answers (clock ∷ clocks) = answers_of clock
+
+-- the disks that it hasn't handed out, by their names
+abbrev pub disks_of : MemHouse → List (List ℕ × MemDisk)
+disks_of h = h.disks.items

@@ -1,11 +1,11 @@
 -- What a worker leaves, as far as a contract reads it.
 use Rattle.std.specs.Prelude.{◌≡◌, ℕ, List, [], ◌∷◌, Option, IfSome, IsSomeAnd}
-use Rattle.sendsms_http.specs.declared.ending.HttpEnd.{HttpEnd}
-use Rattle.boxes_main.specs.declared.ended.Role.{Role}
-use Rattle.boxes_main.specs.declared.ended.Role.TheVariants as role_is
-use Rattle.boxes_main.specs.declared.ended.SessionEnd.{SessionEnd}
-use Rattle.boxes_main.specs.declared.ended.SessionEnd.TheVariants as ended_as
-use Rattle.boxes_main.specs.declared.ended.WorkerEnd.{WorkerEnd}
+use Rattle.sendsms_http.specs.declared.http_end.HttpEnd.{HttpEnd}
+use Rattle.boxes_main.specs.declared.command_end.Role.{Role}
+use Rattle.boxes_main.specs.declared.command_end.Role.TheVariants as role_is
+use Rattle.boxes_main.specs.declared.command_end.SessionEnd.{SessionEnd}
+use Rattle.boxes_main.specs.declared.command_end.SessionEnd.TheVariants as ended_as
+use Rattle.boxes_main.specs.declared.command_end.WorkerEnd.{WorkerEnd}
 
 -- its role, its clock, where it took one, and the ends of its sessions, in order
 pub record Worker (C : Type 0) : Type 0 where

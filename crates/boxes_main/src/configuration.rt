@@ -1,13 +1,10 @@
-//! The words of the command, and the one configuration that is taken for now.
+//! The one configuration that is taken for now.
 
-ghost use Rattle.std.specs.Prelude.{◌≡◌, ◌≢◌, Some, Err, IfErr, IfSome, OnOk};
-ghost use Rattle.std.specs.Option.{option_copied};
-ghost use Rattle.kn_base.specs.Count.{Rose};
-ghost use Rattle.kn_base.specs.Shelf.{text_of};
-ghost use Rattle.boxes_main.specs.Configuration.{configuration_of, IsOfConfiguration};
+ghost use Rattle.std.specs.Prelude.{◌≡◌, OnOk, IfErr};
+ghost use Rattle.kn_base.specs.Count.{next_count};
+ghost use Rattle.boxes_main.specs.Configuration.{HasText, IsRefused};
 
-use crate::Failure;
-use kn_base::{Octets, Shelf, ShelfFault};
+use kn_base::{Shelf, ShelfFault};
 use std::alloc::Global;
 
 /// The text of the configuration, octet for octet.
@@ -33,14 +30,15 @@ password = foobar
 /// The name of its store.
 pub const STORE_FILE: &[u8] = b"gate.store";
 
-/// The name of the configuration, where the words are `door` and a name.
-pub fn configuration_name(words: &[Octets]) -> Option<&Octets>
-    ensures { option_copied result ≡ configuration_of words.now }
-{
-    match words {
-        [command, name] if command.as_slice() == b"door".as_slice() => Some(name),
-        _ => None,
-    }
+/// Why a configuration isn't taken.
+#[derive(Clone, Copy)]
+pub enum ConfigurationFault {
+    /// Its file can't be read: the shelf's count of faults rose.
+    CannotRead,
+    /// It has another text than the one that is taken for now.
+    NotBuilt,
+    /// There was no memory for the words or for its text.
+    Memory,
 }
 
 /// Reads the configuration of that name and sees that it has the text that is taken.
@@ -48,16 +46,15 @@ pub fn read_configuration<S: Shelf>(
     alloc: Global,
     shelf: &mut S,
     name: &[u8],
-) -> Result<(), Failure>
-    ensures built { OnOk result (IfSome (S.files shelf.old) (λ files. text_of name.now files ≡ Some BASE.now)) }
-    ensures not_built { result ≡ Err Failure.NotBuilt → IfSome (S.files shelf.old) (λ files. text_of name.now files ≢ Some BASE.now) }
-    ensures cannot_read { result ≡ Err Failure.CannotRead → Rose (S.faults shelf.old) (S.faults shelf.new) }
-    ensures failures { IfErr result IsOfConfiguration }
+) -> Result<(), ConfigurationFault>
+    ensures asked { S.calls shelf.new ≡ next_count (S.calls shelf.old) }
+    ensures taken { OnOk result (HasText (S.files shelf.old) name.now BASE.now) }
+    ensures refused { IfErr result (IsRefused (S.files shelf.old) name.now BASE.now (S.faults shelf.old) (S.faults shelf.new)) }
 {
     match shelf.file(alloc, name) {
         Ok(text) if text.as_slice() == BASE => Ok(()),
-        Ok(_) => Err(Failure::NotBuilt),
-        Err(ShelfFault::Failed) => Err(Failure::CannotRead),
-        Err(ShelfFault::Memory) => Err(Failure::Memory),
+        Ok(_) => Err(ConfigurationFault::NotBuilt),
+        Err(ShelfFault::Failed) => Err(ConfigurationFault::CannotRead),
+        Err(ShelfFault::Memory) => Err(ConfigurationFault::Memory),
     }
 }

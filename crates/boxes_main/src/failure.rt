@@ -1,27 +1,51 @@
 //! Why a command ends with another status than 0, and what it says of that.
 
 ghost use Rattle.std.specs.Prelude.{◌≡◌};
-ghost use Rattle.boxes_main.specs.Failure.{status_of, line_of, Tells};
+ghost use Rattle.boxes_main.specs.Failure.{row_of, status_of, Tells};
 
+use crate::command::USAGE;
+use crate::{ConfigurationFault, SessionFault, StoreFault};
 use kn_base::{Sink, write_all};
 
-/// What went wrong first.
-#[derive(Clone, Copy, Debug, PartialEq, Eq)]
+/// What went wrong first, by the layer that it went wrong in.
+#[derive(Clone, Copy)]
 pub enum Failure {
     /// The words name no command.
     Usage,
-    /// The configuration's file can't be read.
-    CannotRead,
-    /// The configuration has another text than the one that is taken for now.
-    NotBuilt,
-    /// What the disk holds is no store.
-    Foreign,
-    /// A disk call failed, in opening or in the commit.
-    Disk,
-    /// Standard input or output failed.
-    Connection,
-    /// There was no memory, outside a request that was answered so.
-    Memory,
+    /// The configuration wasn't taken.
+    Configuration(ConfigurationFault),
+    /// The store wasn't opened.
+    Store(StoreFault),
+    /// A session was served, and something failed in it.
+    Session(SessionFault),
+}
+
+/// The line for want of memory.
+const OUT_OF_MEMORY: &[u8] = b"boxes: out of memory\n";
+
+/// The line for a disk that failed.
+const DISK_FAULT: &[u8] = b"boxes: store: disk fault\n";
+
+/// The status that the program ends with, and the line for standard error.
+fn row(failure: Failure) -> (u8, &'static [u8])
+    ensures { (result.0, result.1.now) ≡ row_of failure }
+{
+    match failure {
+        Failure::Usage => (2, USAGE),
+        Failure::Configuration(ConfigurationFault::CannotRead) => {
+            (3, b"boxes: configuration: cannot read\n")
+        }
+        Failure::Configuration(ConfigurationFault::NotBuilt) => {
+            (3, b"boxes: configuration: not built\n")
+        }
+        Failure::Configuration(ConfigurationFault::Memory) => (9, OUT_OF_MEMORY),
+        Failure::Store(StoreFault::Foreign) => (4, b"boxes: store: foreign\n"),
+        Failure::Store(StoreFault::Disk) => (5, DISK_FAULT),
+        Failure::Store(StoreFault::Memory) => (9, OUT_OF_MEMORY),
+        Failure::Session(SessionFault::Disk) => (5, DISK_FAULT),
+        Failure::Session(SessionFault::Connection) => (6, b"boxes: connection fault\n"),
+        Failure::Session(SessionFault::Memory) => (9, OUT_OF_MEMORY),
+    }
 }
 
 /// The status that the program ends with.
@@ -30,27 +54,7 @@ pub fn status(failure: Option<Failure>) -> u8
 {
     match failure {
         None => 0,
-        Some(Failure::Usage) => 2,
-        Some(Failure::CannotRead | Failure::NotBuilt) => 3,
-        Some(Failure::Foreign) => 4,
-        Some(Failure::Disk) => 5,
-        Some(Failure::Connection) => 6,
-        Some(Failure::Memory) => 9,
-    }
-}
-
-/// The line for standard error.
-fn line(failure: Failure) -> &'static [u8]
-    ensures { result.now ≡ line_of failure }
-{
-    match failure {
-        Failure::Usage => b"boxes: usage: boxes door CONF\n",
-        Failure::CannotRead => b"boxes: configuration: cannot read\n",
-        Failure::NotBuilt => b"boxes: configuration: not built\n",
-        Failure::Foreign => b"boxes: store: foreign\n",
-        Failure::Disk => b"boxes: store: disk fault\n",
-        Failure::Connection => b"boxes: connection fault\n",
-        Failure::Memory => b"boxes: out of memory\n",
+        Some(failure) => row(failure).0,
     }
 }
 
@@ -59,6 +63,6 @@ pub fn tell<S: Sink>(errors: &mut S, failure: Option<Failure>)
     ensures { Tells failure (S.course errors.old) (S.course errors.new) }
 {
     if let Some(failure) = failure {
-        let _ = write_all(errors, line(failure));
+        let _ = write_all(errors, row(failure).1);
     }
 }

@@ -1,7 +1,7 @@
 //! The machine as a house. This is the trusted edge: what it hands out tells no content.
 
 use crate::House;
-use kn_base::{HostClock, HostErrors, HostPeer, HostShelf, Memory};
+use kn_base::{HostClock, HostErrors, HostPeer, HostShelf, Memory, raised};
 use std::alloc::Global;
 use std::fs::{File, Files};
 use std::rt::Runtime;
@@ -14,6 +14,7 @@ pub struct HostHouse<R: Runtime + Files<File = File> + Copy> {
     visitor: HostPeer<R>,
     shelf: HostShelf<R>,
     errors: HostErrors<R>,
+    made: u64,
 }
 
 impl<R: Runtime + Files<File = File> + Copy> HostHouse<R> {
@@ -24,6 +25,7 @@ impl<R: Runtime + Files<File = File> + Copy> HostHouse<R> {
             visitor: HostPeer::new(rt),
             shelf: HostShelf::new(rt),
             errors: HostErrors::new(rt),
+            made: 0,
         }
     }
 }
@@ -40,28 +42,17 @@ impl<R: Runtime + Files<File = File> + Copy> House for HostHouse<R> {
     type Er = HostErrors<R>;
 
     ghost use Rattle.std.specs.Prelude.{None, refl};
+    ghost use Rattle.store_journal.specs.Disk.{no_areas};
 
     ghost rooms = { λ h. record { visitor = h.visitor; shelf = h.shelf; errors = h.errors } };
 
-    ghost disks = { λ _ _. None };
+    ghost with_rooms = { λ h r. record h { visitor = r.visitor; shelf = r.shelf; errors = r.errors } };
 
-    ghost with_visitor = { λ h v. record h { visitor = v } };
+    ghost stock = { λ h. record { disks = λ _. no_areas; word = None; made = h.made } };
 
-    ghost with_shelf = { λ h s. record h { shelf = s } };
+    ghost rooms_with = { λ h r. refl };
 
-    ghost with_errors = { λ h e. record h { errors = e } };
-
-    ghost visitor_room = { λ h v. refl };
-
-    ghost shelf_room = { λ h s. refl };
-
-    ghost errors_room = { λ h e. refl };
-
-    ghost visitor_disks = { λ h v. refl };
-
-    ghost shelf_disks = { λ h s. refl };
-
-    ghost errors_disks = { λ h e. refl };
+    ghost stock_with = { λ h r. refl };
 
     fn visitor(&mut self) -> &mut HostPeer<R> {
         &mut self.visitor
@@ -76,7 +67,9 @@ impl<R: Runtime + Files<File = File> + Copy> House for HostHouse<R> {
     }
 
     fn disk(&mut self, alloc: Global, name: &[u8]) -> Result<HostDisk<R>, Memory> {
-        HostDisk::new(alloc, self.rt, name)
+        let disk = HostDisk::new(alloc, self.rt, name)?;
+        self.made = raised(self.made);
+        Ok(disk)
     }
 
     fn clock(&mut self) -> HostClock<R> {

@@ -9,20 +9,23 @@
 //! there and, exactly where it said 202, for the new message behind it.
 #![tactic(auto)]
 
+mod command;
+mod command_end;
 mod configuration;
-mod ended;
 mod failure;
 mod host_house;
 mod house;
 mod mem_house;
-mod serving;
+mod session;
 mod store;
 
-pub use configuration::{BASE, STORE_FILE};
-pub use ended::{Ended, Role, SessionEnd, WorkerEnd};
+pub use command::door::door;
+pub use command::{Command, USAGE, read_command};
+pub use command_end::{Ended, Role, SessionEnd, WorkerEnd};
+pub use configuration::{BASE, ConfigurationFault, STORE_FILE};
 pub use failure::{Failure, status, tell};
 pub use host_house::HostHouse;
 pub use house::House;
 pub use mem_house::MemHouse;
-pub use serving::door;
+pub use session::SessionFault;
 pub use store::{QUEUE_LIMIT, Store, StoreFault};

@@ -1,11 +1,12 @@
 //! A house in memory, whose contents stand beforehand.
 
-ghost use Rattle.std.specs.Prelude.{◌≡◌, List, ℕ, Some, IfSome, IfNone};
-ghost use Rattle.store_journal.specs.MemDisk.{mem_areas};
-ghost use Rattle.boxes_main.specs.Disks.{areas_under, no_areas};
+ghost use Rattle.std.specs.Prelude.{◌≡◌, true, Some, drop, IfOk, OnOk, OnErr};
+ghost use Rattle.boxes_main.specs.Disks.{disk_under, without, areas_in, failing_in};
+ghost use Rattle.boxes_main.specs.House.{MakesOne, IsNewDisk, IsNewClock, IsToldWord};
+ghost use Rattle.store_journal.specs.MemDisk.{mem_areas, mem_calls, mem_faults};
 
 use crate::House;
-use kn_base::{MemClock, MemPeer, MemShelf, Memory, Octets};
+use kn_base::{MemClock, MemPeer, MemShelf, Memory, Octets, raised};
 use std::alloc::Global;
 use store_journal::MemDisk;
 
@@ -20,11 +21,11 @@ pub struct MemHouse {
     word: u64,
     clocks: Vec<MemClock>,
     disks: Vec<(Octets, MemDisk)>,
+    made: u64,
 }
 
 impl MemHouse {
-    ghost use Rattle.boxes_main.specs.MemHouse.{mem_rooms, mem_disks};
-    ghost use Rattle.boxes_main.specs.House.{Rooms};
+    ghost use Rattle.boxes_main.specs.MemHouse.{mem_rooms, mem_stock, clocks_of, disks_of};
 
     /// A house that handed out nothing yet. It takes no memory.
     pub fn new(
@@ -37,7 +38,9 @@ impl MemHouse {
         disks: Vec<(Octets, MemDisk)>,
     ) -> MemHouse
         ensures rooms { mem_rooms result ≡ record { visitor = visitor; shelf = shelf; errors = errors } }
-        ensures disks { (name : List ℕ) → mem_disks result name ≡ areas_under name disks.items }
+        ensures stock { mem_stock result ≡ record { disks = λ name. areas_in (disk_under name disks.items); word = Some word; made = 0 } }
+        ensures clocks { clocks_of result ≡ clocks.items }
+        ensures disks { disks_of result ≡ disks.items }
     {
         MemHouse {
             alloc,
@@ -47,6 +50,7 @@ impl MemHouse {
             word,
             clocks,
             disks,
+            made: 0,
         }
     }
 
@@ -60,8 +64,8 @@ impl MemHouse {
 
 /// Takes the first disk under a name out of a list.
 fn take_under(disks: &mut Vec<(Octets, MemDisk)>, name: &[u8]) -> Option<MemDisk>
-    ensures some { IfSome result (λ disk. areas_under name.now disks.old.items ≡ Some (mem_areas disk)) }
-    ensures none { IfNone result (areas_under name.now disks.old.items ≡ Some no_areas) }
+    ensures taken { result ≡ disk_under name.now disks.old.items }
+    ensures left { disks.new.items ≡ without name.now disks.old.items }
 {
     for at in 0..disks.len() {
         if name == disks[at].0.as_slice() {
@@ -70,6 +74,24 @@ fn take_under(disks: &mut Vec<(Octets, MemDisk)>, name: &[u8]) -> Option<MemDisk
         }
     }
     None
+}
+
+/// The disk as one that has made no call, and one that holds nothing where there is none.
+fn new_disk(alloc: Global, disk: Option<MemDisk>) -> MemDisk
+    ensures areas { mem_areas result ≡ areas_in disk }
+    ensures calls { mem_calls result ≡ record { failing = failing_in disk; made = 0 } }
+    ensures faults { mem_faults result ≡ 0 }
+{
+    match disk {
+        Some(disk) => disk.anew(),
+        None => MemDisk::new(
+            alloc,
+            Octets::new(alloc),
+            Octets::new(alloc),
+            Octets::new(alloc),
+            Vec::new(alloc),
+        ),
+    }
 }
 
 impl House for MemHouse {
@@ -84,29 +106,18 @@ impl House for MemHouse {
     type Er = MemPeer;
 
     ghost use Rattle.std.specs.Prelude.{refl};
-    ghost use Rattle.boxes_main.specs.MemHouse.{mem_rooms, mem_disks};
+    ghost use Rattle.kn_base.specs.MemClock.{answers_of, readings_of, latest_of};
+    ghost use Rattle.boxes_main.specs.MemHouse.{mem_rooms, mem_stock, clocks_of, disks_of, next_answers};
 
     ghost rooms = { mem_rooms };
 
-    ghost disks = { mem_disks };
+    ghost with_rooms = { λ h r. record h { visitor = r.visitor; shelf = r.shelf; errors = r.errors } };
 
-    ghost with_visitor = { λ h v. record h { visitor = v } };
+    ghost stock = { mem_stock };
 
-    ghost with_shelf = { λ h s. record h { shelf = s } };
+    ghost rooms_with = { λ h r. refl };
 
-    ghost with_errors = { λ h e. record h { errors = e } };
-
-    ghost visitor_room = { λ h v. refl };
-
-    ghost shelf_room = { λ h s. refl };
-
-    ghost errors_room = { λ h e. refl };
-
-    ghost visitor_disks = { λ h v. refl };
-
-    ghost shelf_disks = { λ h s. refl };
-
-    ghost errors_disks = { λ h e. refl };
+    ghost stock_with = { λ h r. refl };
 
     fn visitor(&mut self) -> &mut MemPeer {
         &mut self.visitor
@@ -120,21 +131,29 @@ impl House for MemHouse {
         &mut self.errors
     }
 
-    fn disk(&mut self, _alloc: Global, name: &[u8]) -> Result<MemDisk, Memory> {
-        let alloc = self.alloc;
-        match take_under(&mut self.disks, name) {
-            Some(disk) => Ok(disk.anew()),
-            None => Ok(MemDisk::new(
-                alloc,
-                Octets::new(alloc),
-                Octets::new(alloc),
-                Octets::new(alloc),
-                Vec::new(alloc),
-            )),
-        }
+    /// The first disk under the name, with its failing calls. It never fails.
+    fn disk(&mut self, _alloc: Global, name: &[u8]) -> Result<MemDisk, Memory>
+        ensures rooms { mem_rooms self.new ≡ mem_rooms self.old }
+        ensures disk { IfOk result (λ disk. IsNewDisk true (mem_areas disk) (mem_calls disk).made (mem_faults disk) ((mem_stock self.old).disks name.now)) }
+        ensures made { OnOk result (MakesOne (mem_stock self.old) (mem_stock self.new)) }
+        ensures none { OnErr result (mem_stock self.new ≡ mem_stock self.old) }
+        ensures failing { IfOk result (λ disk. (mem_calls disk).failing ≡ failing_in (disk_under name.now (disks_of self.old))) }
+        ensures left { disks_of self.new ≡ without name.now (disks_of self.old) }
+        ensures clocks { clocks_of self.new ≡ clocks_of self.old }
+    {
+        self.made = raised(self.made);
+        Ok(new_disk(self.alloc, take_under(&mut self.disks, name)))
     }
 
-    fn clock(&mut self) -> MemClock {
+    /// The first clock of the list, and one without answers where it is used up.
+    fn clock(&mut self) -> MemClock
+        ensures rooms { mem_rooms self.new ≡ mem_rooms self.old }
+        ensures stock { mem_stock self.new ≡ mem_stock self.old }
+        ensures clock { IsNewClock (readings_of result) (latest_of result) }
+        ensures first { answers_of result ≡ next_answers (clocks_of self.old) }
+        ensures left { clocks_of self.new ≡ drop 1 (clocks_of self.old) }
+        ensures disks { disks_of self.new ≡ disks_of self.old }
+    {
         if self.clocks.is_empty() {
             MemClock::new(self.alloc, Vec::new(self.alloc))
         } else {
@@ -142,7 +161,12 @@ impl House for MemHouse {
         }
     }
 
-    fn word(&mut self) -> u64 {
+    fn word(&mut self) -> u64
+        ensures rooms { mem_rooms self.new ≡ mem_rooms self.old }
+        ensures stock { mem_stock self.new ≡ mem_stock self.old }
+        ensures same { self.new ≡ self.old }
+        ensures word { IsToldWord (mem_stock self.old).word result }
+    {
         self.word
     }
 }

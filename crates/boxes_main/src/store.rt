@@ -1,18 +1,20 @@
 //! The store that keeps messages: entries in a journal, and how many messages wait.
 
-ghost use Rattle.std.specs.Prelude.{◌≡◌, ◌≢◌, ◌≤◌, ◌+◌, List, ℕ, true, false, [], ◌∷◌, is_some, Ok, Err, IfSome, IfOk, IfErr, OnOk, All, length};
-ghost use Rattle.kn_base.specs.Count.{Rose};
+ghost use Rattle.std.specs.Prelude.{◌≡◌, ◌∷◌, [], List, ℕ, IfOk, IfErr, OnOk};
+ghost use Rattle.std.specs.Bool.{OnTrue};
 ghost use Rattle.sms_record.specs.Entry.{accept_octets};
-ghost use Rattle.sendsms_http.specs.Deeds.{MayBeHanded};
-ghost use Rattle.store_journal.specs.Area.{stands, unborn, born};
-ghost use Rattle.store_journal.specs.declared.area.Area.{Area};
-ghost use Rattle.store_journal.specs.Journal.{IsJournal, IsKept, HoldsMore, disk_of, left, birth_of};
-ghost use Rattle.boxes_main.specs.Accepts.{Accept, IsEntry, entry, entries, StandsFor, IsForeign, IsLeftAlone};
-ghost use Rattle.boxes_main.specs.Store.{IsStore, IsOpen, GainsEntry, Refuses, RefusesAppend, disk_in, birth_in, waiting_in, is_store_broken, is_by_disk};
+ghost use Rattle.sendsms_http.specs.Acceptor.{MayBeHanded};
+ghost use Rattle.store_journal.specs.Area.{stands};
+ghost use Rattle.store_journal.specs.Journal.{IsJournal, IsKept, HoldsMore, IsHandedOut, left, birth_of};
+ghost use Rattle.sms_record.specs.declared.entry.accept.Accept.{Accept};
+ghost use Rattle.boxes_main.specs.Accepts.{StandsFor};
+ghost use Rattle.boxes_main.specs.Deeds.{Does, CountsFault, is_by_disk};
+ghost use Rattle.boxes_main.specs.Store.{IsStore, IsOpen, IsOpened, IsUnopened, disk_in, is_store_broken};
+ghost use Rattle.boxes_main.specs.StoreSteps.{CountsIn, Loads, LoadsNone, RefusesAppend};
 
-use kn_base::{Memory, Octets};
+use kn_base::{Items, Memory, Octets};
 use sendsms_http::{Acceptor, Refusal, Reply};
-use sms_record::entry::{read_accept, write_accept};
+use sms_record::entry::{Accept, read_accept, write_accept};
 use sms_record::{RecordFault, Sms};
 use std::alloc::Global;
 use store_journal::{Disk, DiskFailed, Journal, OpenFault};
@@ -28,7 +30,7 @@ pub struct Store<D: Disk> {
 }
 
 /// Why a store can't be opened.
-#[derive(Clone, Copy, Debug, PartialEq, Eq, Hash)]
+#[derive(Clone, Copy)]
 pub enum StoreFault {
     /// What the disk holds is no store.
     Foreign,
@@ -38,37 +40,32 @@ pub enum StoreFault {
     Memory,
 }
 
-/// How many messages an entry has.
-fn count_messages(alloc: Global, payload: &Octets) -> Result<u64, StoreFault>
-    ensures ok { IfOk result (λ count. (accept : Accept) × IsEntry accept × (payload.now ≡ entry accept) × (count ≡ length accept.parts)) }
-    ensures foreign { result ≡ Err StoreFault.Foreign → (accept : Accept) → IsEntry accept → payload.now ≡ entry accept → ⊥ }
-    ensures disk { result ≡ Err StoreFault.Disk → ⊥ }
+/// How many messages an entry has. A payload that is no entry has none.
+fn count_messages(alloc: Global, payload: &Octets) -> Result<Option<u64>, Memory>
+    ensures { IfOk result (CountsIn payload.now) }
 {
     match read_accept(alloc, payload.as_slice()) {
-        Ok(accept) => Ok(accept.1.len() as u64),
-        Err(RecordFault::Memory) => Err(StoreFault::Memory),
-        Err(RecordFault::Short) => Err(StoreFault::Foreign),
-        Err(RecordFault::Malformed { .. }) => Err(StoreFault::Foreign),
+        Ok(accept) => Ok(Some(accept.parts.len() as u64)),
+        Err(RecordFault::Memory) => Err(Memory),
+        Err(RecordFault::Short) => Ok(None),
+        Err(RecordFault::Malformed { .. }) => Ok(None),
     }
 }
 
 /// A store over a journal whose payloads are all still to be handed out.
 fn load<D: Disk>(alloc: Global, journal: Journal<D>) -> Result<Store<D>, (D, StoreFault)>
-    requires { IsJournal D.contents journal (birth_of journal) (left journal) }
-    ensures ok { IfOk result (λ store. (accepts : List Accept) × (left journal ≡ entries accepts) × IsStore D.contents store (birth_of journal) accepts) }
-    ensures ok_disk { IfOk result (λ store. disk_in store ≡ disk_of journal) }
-    ensures foreign { IfErr result (λ fault. fault.1 ≡ StoreFault.Foreign → (accepts : List Accept) → All IsEntry accepts → left journal ≡ entries accepts → ⊥) }
-    ensures no_disk { IfErr result (λ fault. fault.1 ≡ StoreFault.Disk → ⊥) }
-    ensures err_disk { IfErr result (λ fault. fault.0 ≡ disk_of journal) }
-    ensures err_stands { IfErr result (λ fault. IfSome (D.contents fault.0) (λ areas. (area : Area) × (stands areas ≡ born (birth_of journal) area (left journal)))) }
+    requires { IsJournal D.tells D.contents journal (birth_of journal) (left journal) }
+    ensures ok { IfOk result (Loads D.tells D.contents journal) }
+    ensures err { IfErr result (λ fault. LoadsNone D.tells D.contents journal fault.0 fault.1) }
 {
     let mut journal = journal;
     let mut waiting: u64 = 0;
     loop {
         match journal.next() {
             Ok(Some(payload)) => match count_messages(alloc, &payload) {
-                Ok(count) => waiting = waiting.saturating_add(count),
-                Err(fault) => return Err((journal.close(), fault)),
+                Ok(Some(count)) => waiting = waiting.saturating_add(count),
+                Ok(None) => return Err((journal.close(), StoreFault::Foreign)),
+                Err(Memory) => return Err((journal.close(), StoreFault::Memory)),
             },
             Ok(None) => break,
             Err(_) => return Err((journal.close(), StoreFault::Memory)),
@@ -82,18 +79,10 @@ fn load<D: Disk>(alloc: Global, journal: Journal<D>) -> Result<Store<D>, (D, Sto
 }
 
 impl<D: Disk> Store<D> {
-    /// Opens the store on a disk, and where the disk holds none yet, makes it with that birth.
+    /// Opens the store on a disk, and where the disk holds none yet, makes it with that birth. Each fault gives the disk back.
     pub fn open(alloc: Global, disk: D, birth: u64) -> Result<Store<D>, (D, StoreFault)>
-        ensures ok { IfOk result (λ store. (birth : ℕ) × (accepts : List Accept) × IsStore D.contents store birth accepts
-            × IfSome (D.contents disk) (λ areas. StandsFor (stands areas) birth accepts)) }
-        ensures born { IfOk result (λ store. IfSome (D.contents disk) (λ areas. stands areas ≡ unborn → birth_in store ≡ birth)) }
-        ensures told { IfOk result (λ store. is_some (D.contents (disk_in store)) ≡ is_some (D.contents disk)) }
-        ensures unfailed { IfOk result (λ store. D.faults (disk_in store) ≡ D.faults disk) }
-        ensures foreign { IfErr result (λ fault. fault.1 ≡ StoreFault.Foreign → IfSome (D.contents disk) (λ areas. IsForeign (stands areas))) }
-        ensures failed { IfErr result (λ fault. fault.1 ≡ StoreFault.Disk → Rose (D.faults disk) (D.faults fault.0)) }
-        ensures faults { IfErr result (λ fault. D.faults disk ≤ D.faults fault.0) }
-        ensures kept { IfErr result (λ fault. fault.1 ≢ StoreFault.Disk → IsLeftAlone (D.contents disk) (D.contents fault.0)) }
-        ensures told_back { IfErr result (λ fault. is_some (D.contents fault.0) ≡ is_some (D.contents disk)) }
+        ensures ok { IfOk result (IsOpened D.tells D.contents D.faults (D.contents disk) (D.faults disk) birth) }
+        ensures err { IfErr result (λ fault. IsUnopened D.tells D.contents D.faults (D.contents disk) (D.faults disk) birth fault.0 fault.1) }
     {
         match Journal::open(alloc, disk, birth) {
             Ok(journal) => load(alloc, journal),
@@ -110,53 +99,46 @@ impl<D: Disk> Store<D> {
         self.journal.is_broken()
     }
 
-    /// Records messages at a time, in Unix seconds, as one entry on the disk.
-    pub fn accept(&mut self, parts: &[Sms], time: u64) -> Result<Reply, Refusal>
-        requires kept { IsOpen D.contents self.old }
-        requires fits { MayBeHanded parts.now time }
-        ensures ok { OnOk result (GainsEntry D.contents self.old self.new (record { time = time; parts = parts.now })) }
-        ensures reply { IfOk result (λ reply. reply ≡ Reply.Accepted (waiting_in self.old + 1) (length parts.now) true) }
-        ensures refused { IfErr result (Refuses D.contents D.faults self.old self.new (length parts.now)) }
-        ensures broken { is_store_broken self.new ≡ is_by_disk result }
-        ensures faults { D.faults (disk_in self.old) ≤ D.faults (disk_in self.new) }
-        ensures told { is_some (D.contents (disk_in self.new)) ≡ is_some (D.contents (disk_in self.old)) }
+    /// Records messages that were taken at one time as one entry on the disk.
+    ///
+    /// `Full` where the messages that wait and these would pass `QUEUE_LIMIT`, `Disk` where a disk call failed, which breaks the
+    /// store, `Memory` where there was none. Only an entry that was accepted is kept, but for `Disk`, where that isn't known.
+    pub fn accept(&mut self, accept: &Accept) -> Result<Reply, Refusal>
+        requires kept { IsOpen D.tells D.contents self.old }
+        requires fits { MayBeHanded accept.now.parts accept.now.time }
+        ensures { Does D.tells D.contents D.faults self.old (record { parts = accept.now.parts; time = accept.now.time; outcome = result }) self.new }
     {
         let held = self.waiting;
-        let count = parts.len() as u32;
+        let count = accept.parts.len() as u32;
         if held > QUEUE_LIMIT - u64::from(count) {
             return Err(Refusal::Full {
                 held,
                 limit: QUEUE_LIMIT,
             });
         }
-        match self.append_entry(parts, time) {
-            Ok(()) => {
-                self.waiting = held + u64::from(count);
-                Ok(Reply::Accepted {
-                    first: held + 1,
-                    count,
-                    queued: true,
-                })
-            }
-            Err(refusal) => Err(refusal),
-        }
+        self.append_entry(accept)?;
+        self.waiting = held + u64::from(count);
+        Ok(Reply::Accepted {
+            first: held + 1,
+            count,
+            queued: true,
+        })
     }
 
     /// Puts an entry last in the journal.
-    fn append_entry(&mut self, parts: &[Sms], time: u64) -> Result<(), Refusal>
-        requires kept { IsKept D.contents self.old.journal }
-        requires handed_out { left self.old.journal ≡ [] }
-        requires fits { MayBeHanded parts.now time }
+    fn append_entry(&mut self, accept: &Accept) -> Result<(), Refusal>
+        requires kept { IsKept D.tells D.contents self.old.journal }
+        requires handed_out { IsHandedOut self.old.journal }
+        requires fits { MayBeHanded accept.now.parts accept.now.time }
         ensures same { self.new ≡ record self.old { journal = self.new.journal } }
-        ensures ok { OnOk result (HoldsMore D.contents self.old.journal self.new.journal (accept_octets time parts.now ∷ [])) }
-        ensures refused { IfErr result (RefusesAppend D.contents D.faults self.old.journal self.new.journal) }
+        ensures ok { OnOk result (HoldsMore D.tells D.contents self.old.journal self.new.journal (accept_octets accept.now ∷ [])) }
+        ensures refused { IfErr result (RefusesAppend D.tells D.contents self.old.journal self.new.journal) }
+        ensures handed_out { IsHandedOut self.new.journal }
         ensures broken { is_store_broken self.new ≡ is_by_disk result }
-        ensures nothing_left { left self.new.journal ≡ [] }
-        ensures faults { D.faults (disk_in self.old) ≤ D.faults (disk_in self.new) }
-        ensures told { is_some (D.contents (disk_in self.new)) ≡ is_some (D.contents (disk_in self.old)) }
+        ensures counted { CountsFault (is_by_disk result) (D.faults (disk_in self.old)) (D.faults (disk_in self.new)) }
     {
         let mut entry = Octets::new(self.alloc);
-        if let Err(Memory) = write_accept(&mut entry, time, parts) {
+        if let Err(Memory) = write_accept(&mut entry, accept) {
             return Err(Refusal::Memory);
         }
         if let Err(Memory) = self.journal.reserve(entry.as_slice()) {
@@ -171,8 +153,8 @@ impl<D: Disk> Store<D> {
     /// Ends the store and gives its disk back.
     pub fn close(self) -> D
         ensures disk { result ≡ disk_in self }
-        ensures stands { (birth : ℕ) (accepts : List Accept) → IsStore D.contents self birth accepts →
-            IfSome (D.contents result) (λ areas. StandsFor (stands areas) birth accepts) }
+        ensures stands { (birth : ℕ) (accepts : List Accept) → IsStore D.tells D.contents self birth accepts →
+            OnTrue D.tells (StandsFor (stands (D.contents result)) birth accepts) }
     {
         let Store {
             alloc: _,
@@ -184,20 +166,24 @@ impl<D: Disk> Store<D> {
 }
 
 impl<D: Disk> Acceptor for Store<D> {
+    ghost use Rattle.std.specs.Prelude.{refl};
     ghost use Rattle.boxes_main.specs.Store.{IsOpen, disk_in};
-    ghost use Rattle.boxes_main.specs.Deeds.{Leads, Leads-nil, Leads-append};
+    ghost use Rattle.boxes_main.specs.Deeds.{Leads, Leads-append};
 
     ghost faults = { λ store. D.faults (disk_in store) };
 
-    ghost leads = { Leads D.contents D.faults };
+    ghost leads = { Leads D.tells D.contents D.faults };
 
-    ghost can_submit = { IsOpen D.contents };
+    ghost can_submit = { IsOpen D.tells D.contents };
 
-    ghost leads_nowhere = { Leads-nil D.contents D.faults };
+    ghost leads_nowhere = { λ store. refl };
 
-    ghost leads_on = { Leads-append D.contents D.faults };
+    ghost leads_on = { Leads-append D.tells D.contents D.faults };
 
     fn submit(&mut self, parts: Vec<Sms>, time: u64) -> Result<Reply, Refusal> {
-        self.accept(&parts, time)
+        self.accept(&Accept {
+            time,
+            parts: Items::from_vec(parts),
+        })
     }
 }

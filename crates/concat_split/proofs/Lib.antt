@@ -1,4 +1,4 @@
-pub mod Elements
+pub mod Joints
 pub mod Headers
 pub mod Cuts
 pub mod Fronts

@@ -7,7 +7,7 @@ use Rattle.sms_record.specs.declared.coding.Coding.{Coding}
 use Rattle.sms_record.specs.Room.{cap}
 use Rattle.concat_split.specs.declared.limits.Limits.{Limits}
 use Rattle.concat_split.specs.declared.part.Part.{Part}
-use Rattle.concat_split.specs.declared.fault.SplitFault.{SplitFault}
+use Rattle.concat_split.specs.declared.split_fault.SplitFault.{SplitFault}
 use Rattle.concat_split.specs.Characters.{characters, units}
 use Rattle.concat_split.specs.Parts.{front, broken, round, wrapped, texts, alone, numbered, room_of, around_of, parts_of}
 use Rattle.concat_split.specs.Kept.{bodies_of, IsSharedOut}

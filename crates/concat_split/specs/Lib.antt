@@ -1,5 +1,5 @@
-pub mod Header
-pub mod Elements
+pub mod Joint
+pub mod Outgoing
 pub mod Characters
 pub mod Parts
 pub mod Kept

@@ -7,8 +7,8 @@ use Rattle.sms_record.specs.declared.coding.Coding.TheVariants.{Seven, Eight, Uc
 use Rattle.sms_record.specs.Room.{cap, header_len}
 use Rattle.concat_split.specs.declared.limits.Limits.{Limits}
 use Rattle.concat_split.specs.declared.part.Part.{Part}
-use Rattle.concat_split.specs.declared.fault.SplitFault.{SplitFault}
-use Rattle.concat_split.specs.declared.fault.SplitFault.TheVariants.{NoRoom, Memory}
+use Rattle.concat_split.specs.declared.split_fault.SplitFault.{SplitFault}
+use Rattle.concat_split.specs.declared.split_fault.SplitFault.TheVariants.{NoRoom, Memory}
 use Rattle.concat_split.specs.Characters.{characters, units, Cuts}
 
 -- the longest front of these characters that has at most so many units
@@ -97,9 +97,9 @@ IsOfCoding Seven text = Unit {0}
 IsOfCoding Eight text = Unit {0}
 IsOfCoding Ucs2 text = length text % 2 ≡ 0
 
--- what stands round a text is short
+-- what stands round a text has so few octets that NoRoom can tell how many
 abbrev pub AreShort : Limits → Type 0
-AreShort limits = length limits.header + length limits.suffix + length limits.footer < 2 ^ 32
+AreShort limits = length limits.header + length limits.suffix + length limits.footer < 2 ^ 63
 
 -- limits that a text of this coding may have
 pub record AreLimits (coding : Coding) (limits : Limits) : Type 0 where

@@ -8,19 +8,18 @@
 #![tactic(auto)]
 
 mod characters;
-mod fault;
-mod header;
+mod header_fault;
 mod joint;
 mod limits;
+mod outgoing;
 mod part;
+mod split_fault;
 mod splitting;
 
-pub use fault::{HeaderFault, SplitFault};
-pub use header::{parts_share_a_reference, read_udh, udh_of};
-pub use joint::Joint;
+pub use header_fault::HeaderFault;
+pub use joint::{Joint, read_udh};
 pub use limits::Limits;
+pub use outgoing::udh_of;
 pub use part::Part;
+pub use split_fault::SplitFault;
 pub use splitting::split;
-
-#[cfg(test)]
-mod tests;

@@ -3,7 +3,7 @@
 use kn_base::Octets;
 
 /// What a user or service may have of parts, and what stands round the text of each. The texts are in the body's coding.
-#[derive(Debug, Drop)]
+#[derive(Drop)]
 pub struct Limits {
     /// How many parts a message may have, 1 to 100.
     pub parts: u8,

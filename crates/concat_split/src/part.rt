@@ -3,7 +3,7 @@
 use kn_base::Octets;
 
 /// What goes out as one message.
-#[derive(Debug, Drop)]
+#[derive(Drop)]
 pub struct Part {
     /// Septets, octets or UCS-2 units, as the text was.
     pub body: Octets,

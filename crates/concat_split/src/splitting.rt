@@ -43,7 +43,7 @@ fn header_len(udh: usize, limits: &Limits) -> usize
 fn round(coding: Coding, limits: &Limits) -> usize
     requires { AreShort limits.now }
     ensures value { result ≡ round coding limits.now }
-    ensures short { result < 2 ^ 32 }
+    ensures short { result < 2 ^ 63 }
 {
     units_of(coding, limits.header.len()) + units_of(coding, limits.footer.len())
 }
@@ -64,7 +64,7 @@ fn room_of(coding: Coding, udh: usize, limits: &Limits) -> usize
 fn around_of(coding: Coding, limits: &Limits) -> usize
     requires { AreShort limits.now }
     ensures value { result ≡ around_of coding limits.now }
-    ensures short { result < 2 ^ 33 }
+    ensures short { result < 2 ^ 63 }
 {
     let around = round(coding, limits);
     if limits.parts == 1 {

@@ -3,8 +3,14 @@
 #![tactic(auto)]
 
 #[cfg(test)]
+mod alphabet;
+#[cfg(test)]
 mod head;
+#[cfg(test)]
+mod record;
 #[cfg(test)]
 mod request;
 #[cfg(test)]
 mod session;
+#[cfg(test)]
+mod split;

@@ -9,7 +9,7 @@ use kn_base::{Charset, Memory};
 use std::alloc::Global;
 
 /// Why octets are no text.
-#[derive(Clone, Copy, Debug, PartialEq, Eq, Hash)]
+#[derive(Clone, Copy, Debug, PartialEq)]
 pub enum CharsetFault {
     /// They aren't UTF-8 (RFC 3629). Their longest front that is has `at` octets.
     BadUtf8 { at: usize },

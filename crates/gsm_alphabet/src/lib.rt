@@ -19,6 +19,3 @@ pub use alphabet::{from_gsm, to_gsm};
 pub use charset_text::{CharsetFault, from_charset};
 pub use packing::{pack, unpack};
 pub use ucs2::to_ucs2;
-
-#[cfg(test)]
-mod tests;

@@ -1,3 +1,4 @@
+pub mod Clocks
 pub mod Decimals
 pub mod MemPeers
 pub mod Talks

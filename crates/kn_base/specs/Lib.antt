@@ -8,7 +8,8 @@ pub mod Host
 pub mod MemClock
 pub mod MemCourse
 pub mod MemPeer
-pub mod MemReady
 pub mod MemShelf
+pub mod Readings
+pub mod Script
 pub mod Shelf
 pub mod Talk

@@ -1,7 +1,7 @@
 //! The charsets in which text comes in and goes out.
 
 /// How the octets of a text are to be read.
-#[derive(Clone, Copy, Debug, PartialEq, Eq, Hash)]
+#[derive(Clone, Copy, Debug, PartialEq)]
 pub enum Charset {
     /// UTF-8 (RFC 3629).
     Utf8,

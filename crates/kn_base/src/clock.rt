@@ -3,6 +3,9 @@
 ghost use Rattle.std.specs.Prelude.{◌≡◌, ℕ, ◌<◌, ◌≤◌, ◌^◌, [], ◌∷◌, ◌++◌, List, Option};
 ghost use Rattle.kn_base.specs.Clock.{Adds};
 
+/// The first second that a clock doesn't read.
+pub const CLOCK_END: u64 = 1 << 37;
+
 /// Readings in Unix seconds, none below an earlier one.
 pub trait Clock {
     /// The readings so far, where they are told. A clock may stop telling them.

@@ -9,7 +9,7 @@ use crate::{Memory, Octets};
 use std::alloc::Global;
 
 /// Why a text is no octets in hex digits.
-#[derive(Clone, Copy, Debug, PartialEq, Eq, Hash)]
+#[derive(Clone, Copy, Debug, PartialEq)]
 pub enum HexFault {
     /// The first octet that is no hex digit is at `at`.
     Digit { at: usize },

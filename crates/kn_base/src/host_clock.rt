@@ -3,7 +3,7 @@
 ghost use Rattle.std.specs.Prelude.{◌≡◌, ◌<◌, ◌^◌};
 
 use crate::Clock;
-use crate::mem_clock::CLOCK_END;
+use crate::clock::CLOCK_END;
 use std::rt::Clock as SystemClock;
 use std::time::Duration;
 

@@ -58,6 +58,3 @@ pub use shelf::{Shelf, ShelfFault};
 pub use sink::{Give, Sink};
 pub use source::{Source, Take};
 pub use writing::{Wrote, write_all};
-
-#[cfg(test)]
-mod tests;

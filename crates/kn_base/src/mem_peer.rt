@@ -1,12 +1,14 @@
 //! A peer in memory: what it says stands beforehand, and it tells all that it went through.
 
-ghost use Rattle.std.specs.Prelude.{◌≡◌, ◌≤◌, ◌<◌, ◌+◌, true, false, [], ◌∷◌, ◌++◌, length, OnOk, OnErr};
-ghost use Rattle.kn_base.specs.Course.{Takes};
-ghost use Rattle.kn_base.specs.MemPeer.{octets_left};
+ghost use Rattle.std.specs.Prelude.{◌≡◌, ◌≤◌, ◌<◌, min, true, [], ◌∷◌, ◌++◌, length, take, drop, IfOk, OnOk, OnErr};
+ghost use Rattle.kn_base.specs.Course.{Takes, Gives};
+ghost use Rattle.kn_base.specs.Script.{octets_of, some_answers, AnswersTake, AnswersGive};
+ghost use Rattle.kn_base.specs.MemPeer.{answers_left, front_len, IsReady};
 ghost use Rattle.kn_base.specs.declared.piece.Piece.TheVariants as said;
 
 use crate::{
-    Give, Items, MemTake, Memory, Meter, Octets, Past, Peer, Piece, Sink, Source, Take, raised,
+    Give, Items, MemCalls, MemTake, Memory, Meter, Octets, Past, Peer, Piece, Sink, Source, Take,
+    raised,
 };
 use std::alloc::Global;
 use std::collections::VecDeque;
@@ -18,36 +20,31 @@ use std::collections::VecDeque;
 #[derive(Drop)]
 pub struct MemPeer {
     alloc: Global,
-    current: Octets,
+    answers: VecDeque<MemTake>,
     at: usize,
-    waiting: VecDeque<MemTake>,
-    failing: Vec<u64>,
-    calls: u64,
+    calls: MemCalls,
     pieces: Vec<Piece>,
     faults: u64,
     starved: u64,
     quiets: u64,
     ended: bool,
-    ghost within: { at ≤ length current },
-    ghost ends_empty: { ended ≡ true → octets_left current at waiting.items ≡ [] },
+    ghost within: { at ≤ front_len answers.items },
+    ghost ends_empty: { ended ≡ true → answers_left at answers.items ≡ [] },
 }
 
 impl MemPeer {
-    ghost use Rattle.kn_base.specs.MemPeer.{octets_of};
-    ghost use Rattle.kn_base.specs.MemCourse.{mem_course, fresh_course};
-    ghost use Rattle.kn_base.specs.MemReady.{IsReady, IsBytesFirst};
+    ghost use Rattle.kn_base.specs.MemCourse.{mem_course, mem_script, fresh_course};
 
     /// A peer that has made no call. It takes no memory.
     pub fn new(alloc: Global, takes: Vec<MemTake>, failing: Vec<u64>) -> MemPeer
-        ensures { mem_course result ≡ fresh_course (octets_of takes.items) }
+        ensures course { mem_course result ≡ fresh_course (octets_of takes.items) }
+        ensures script { mem_script result ≡ record { answers = some_answers takes.items; calls = record { failing = failing.items; made = 0 } } }
     {
         MemPeer {
             alloc,
-            current: Octets::new(alloc),
+            answers: VecDeque::from(takes),
             at: 0,
-            waiting: VecDeque::from(takes),
-            failing,
-            calls: 0,
+            calls: MemCalls::new(failing),
             pieces: Vec::new(alloc),
             faults: 0,
             starved: 0,
@@ -56,72 +53,53 @@ impl MemPeer {
         }
     }
 
-    /// Whether this call is to fail. The next one has the next number.
-    fn call_fails(&mut self) -> bool
-        ensures { mem_course self.new ≡ mem_course self.old }
+    /// Leaves the answers at the front that are used up.
+    fn leave_used_up(&mut self)
+        ensures course { mem_course self.new ≡ mem_course self.old }
+        ensures script { mem_script self.new ≡ mem_script self.old }
+        ensures ready { IsReady self.new.at self.new.answers.items }
+        ensures none { answers_left self.new.at self.new.answers.items ≡ [] → self.new.answers.items ≡ [] }
     {
-        let call = self.calls;
-        self.calls = raised(call);
-        self.failing.contains(&call)
-    }
-
-    /// Makes the next answer that has octets the current one, and says what comes next.
-    fn ready(&mut self) -> Ready
-        ensures same { mem_course self.new ≡ mem_course self.old }
-        ensures ready { IsReady self.new.current self.new.at self.new.waiting.items result }
-    {
-        while self.at == self.current.len() {
-            match self.waiting.front() {
-                None => return Ready::Nothing,
-                Some(MemTake::Quiet) => return Ready::Quiet,
-                Some(MemTake::Bytes(_)) => self.begin_next(),
+        while let Some(MemTake::Bytes(octets)) = self.answers.front() {
+            if self.at < octets.len() {
+                return;
             }
-        }
-        Ready::Bytes
-    }
-
-    /// Gives octets of the current answer, as many as the buffer takes.
-    fn hear(&mut self, into: &mut [u8]) -> Take
-        requires room { 0 < length into.old }
-        requires some { self.old.at < length self.old.current }
-        requires going_on { self.old.ended ≡ false }
-        ensures { Takes into.new result (mem_course self.old) (mem_course self.new) }
-    {
-        let left = &self.current.as_slice()[self.at..];
-        let count = left.len().min(into.len());
-        match keep_heard(self.alloc, &mut self.pieces, &left[..count]) {
-            Ok(()) => {
-                into[..count].copy_from_slice(&left[..count]);
-                self.at += count;
-                Take::Bytes(count)
-            }
-            Err(Memory) => {
-                self.starved = raised(self.starved);
-                Take::Failed
-            }
-        }
-    }
-
-    /// Leaves the current answer, which is used up, for the one behind it.
-    fn begin_next(&mut self)
-        requires used_up { length self.old.current ≤ self.old.at }
-        requires more { IsBytesFirst self.old.waiting.items }
-        ensures same { mem_course self.new ≡ mem_course self.old }
-        ensures less { length self.new.waiting.items + 1 ≡ length self.old.waiting.items }
-    {
-        if let Some(MemTake::Bytes(next)) = self.waiting.pop_front() {
-            self.current = next;
+            self.answers.pop_front();
             self.at = 0;
         }
     }
 }
 
-/// What a peer in memory has ready.
-#[derive(Clone, Copy)]
-enum Ready {
-    Bytes,
-    Quiet,
-    Nothing,
+/// Gives octets of an answer from a place on, as many as the buffer takes, and puts them last among the pieces.
+fn hear(
+    alloc: Global,
+    pieces: &mut Vec<Piece>,
+    octets: &[u8],
+    at: usize,
+    into: &mut [u8],
+) -> Result<usize, Memory>
+    requires { at ≤ length octets.now }
+    ensures count { IfOk result (λ count. count ≡ min (length into.old) (length (drop at octets.now))) }
+    ensures octets { IfOk result (λ count. take count into.new ≡ take count (drop at octets.now)) }
+    ensures ok { IfOk result (λ count. pieces.new.items ≡ pieces.old.items ++ said.Heard (take count (drop at octets.now)) ∷ []) }
+    ensures err { OnErr result (pieces.new.items ≡ pieces.old.items) }
+{
+    let left = &octets[at..];
+    let count = into.len().min(left.len());
+    let heard = Octets::from_slice(alloc, &left[..count])?;
+    pieces.push(Piece::Heard(heard))?;
+    into[..count].copy_from_slice(&left[..count]);
+    Ok(count)
+}
+
+/// Puts what was said last among the pieces.
+fn say(alloc: Global, pieces: &mut Vec<Piece>, bytes: &[u8]) -> Result<(), Memory>
+    ensures ok { OnOk result (pieces.new.items ≡ pieces.old.items ++ said.Said bytes.now ∷ []) }
+    ensures err { OnErr result (pieces.new.items ≡ pieces.old.items) }
+{
+    let said = Octets::from_slice(alloc, bytes)?;
+    pieces.push(Piece::Said(said))?;
+    Ok(())
 }
 
 impl Meter for MemPeer {
@@ -135,37 +113,66 @@ impl Meter for MemPeer {
 }
 
 impl Source for MemPeer {
-    fn take(&mut self, into: &mut [u8]) -> Take {
-        let fails = self.call_fails();
-        if self.ended {
-            return Take::End;
-        }
-        match self.ready() {
-            Ready::Nothing => {
+    ghost use Rattle.kn_base.specs.MemCourse.{mem_course, mem_script, mem_counts};
+
+    /// Takes the next octets of the answer whose turn it is, as the script has it.
+    fn take(&mut self, into: &mut [u8]) -> Take
+        requires { 0 < length into.old }
+        ensures takes { Takes into.new result (mem_course self.old) (mem_course self.new) }
+        ensures script { AnswersTake (length into.old) result (mem_script self.old) (mem_script self.new) (mem_counts self.old) (mem_counts self.new) }
+    {
+        let fails = self.calls.next_fails();
+        self.leave_used_up();
+        match self.answers.front() {
+            None => {
                 self.ended = true;
                 Take::End
             }
-            _ if fails => {
+            Some(_) if fails => {
                 self.faults = raised(self.faults);
                 Take::Failed
             }
-            Ready::Quiet => {
-                self.waiting.pop_front();
+            Some(MemTake::Quiet) => {
+                self.answers.pop_front();
                 self.quiets = raised(self.quiets);
                 Take::Quiet
             }
-            Ready::Bytes => self.hear(into),
+            Some(MemTake::Bytes(octets)) => {
+                match hear(
+                    self.alloc,
+                    &mut self.pieces,
+                    octets.as_slice(),
+                    self.at,
+                    into,
+                ) {
+                    Ok(count) => {
+                        self.at += count;
+                        Take::Bytes(count)
+                    }
+                    Err(Memory) => {
+                        self.starved = raised(self.starved);
+                        Take::Failed
+                    }
+                }
+            }
         }
     }
 }
 
 impl Sink for MemPeer {
-    fn give(&mut self, bytes: &[u8]) -> Give {
-        if self.call_fails() {
+    ghost use Rattle.kn_base.specs.MemCourse.{mem_course, mem_script, mem_counts};
+
+    /// Takes all octets, unless the call is one of those that are to fail.
+    fn give(&mut self, bytes: &[u8]) -> Give
+        requires { 0 < length bytes.now }
+        ensures gives { Gives bytes.now result (mem_course self.old) (mem_course self.new) }
+        ensures script { AnswersGive bytes.now result (mem_script self.old) (mem_script self.new) (mem_counts self.old) (mem_counts self.new) }
+    {
+        if self.calls.next_fails() {
             self.faults = raised(self.faults);
             return Give::Failed;
         }
-        match keep_said(self.alloc, &mut self.pieces, bytes) {
+        match say(self.alloc, &mut self.pieces, bytes) {
             Ok(()) => Give::Took(bytes.len()),
             Err(Memory) => {
                 self.starved = raised(self.starved);
@@ -185,24 +192,4 @@ impl Peer for MemPeer {
             ended: self.ended,
         })
     }
-}
-
-/// Puts what was said last among the pieces.
-fn keep_said(alloc: Global, pieces: &mut Vec<Piece>, bytes: &[u8]) -> Result<(), Memory>
-    ensures ok { OnOk result (pieces.new.items ≡ pieces.old.items ++ said.Said bytes.now ∷ []) }
-    ensures err { OnErr result (pieces.new.items ≡ pieces.old.items) }
-{
-    let said = Octets::from_slice(alloc, bytes)?;
-    pieces.push(Piece::Said(said))?;
-    Ok(())
-}
-
-/// Puts what was heard last among the pieces.
-fn keep_heard(alloc: Global, pieces: &mut Vec<Piece>, bytes: &[u8]) -> Result<(), Memory>
-    ensures ok { OnOk result (pieces.new.items ≡ pieces.old.items ++ said.Heard bytes.now ∷ []) }
-    ensures err { OnErr result (pieces.new.items ≡ pieces.old.items) }
-{
-    let heard = Octets::from_slice(alloc, bytes)?;
-    pieces.push(Piece::Heard(heard))?;
-    Ok(())
 }

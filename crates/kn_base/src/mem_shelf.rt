@@ -1,10 +1,12 @@
 //! A shelf in memory, whose files stand beforehand.
 
-ghost use Rattle.std.specs.Prelude.{◌≡◌, Some, MatchOption, IfSome, None, IsNone};
+ghost use Rattle.std.specs.Prelude.{◌≡◌, ◌≤◌, ◌⊎◌, ◌↔◌, Some, None, IfSome, IfOk, IsErrOf};
 ghost use Rattle.std.specs.Option.{option_copied};
+ghost use Rattle.kn_base.specs.Count.{next_count};
+ghost use Rattle.kn_base.specs.Calls.{IsFailing, one_more};
 ghost use Rattle.kn_base.specs.Shelf.{text_of};
 
-use crate::{Octets, Shelf, ShelfFault, raised};
+use crate::{MemCalls, Octets, Shelf, ShelfFault, raised};
 use std::alloc::Global;
 
 /// Names and texts. Of a name that stands twice the first text counts; one that isn't there is a counted fault.
@@ -13,8 +15,7 @@ use std::alloc::Global;
 #[derive(Drop)]
 pub struct MemShelf {
     files: Vec<(Octets, Octets)>,
-    failing: Vec<u64>,
-    calls: u64,
+    calls: MemCalls,
     faults: u64,
 }
 
@@ -24,13 +25,12 @@ impl MemShelf {
     /// A shelf that was asked for nothing yet. It takes no memory.
     pub fn new(_alloc: Global, files: Vec<(Octets, Octets)>, failing: Vec<u64>) -> MemShelf
         ensures files { files_of result ≡ Some files.items }
-        ensures calls { calls_of result ≡ 0 }
+        ensures calls { calls_of result ≡ record { failing = failing.items; made = 0 } }
         ensures faults { faults_of result ≡ 0 }
     {
         MemShelf {
             files,
-            failing,
-            calls: 0,
+            calls: MemCalls::new(failing),
             faults: 0,
         }
     }
@@ -53,19 +53,28 @@ impl Shelf for MemShelf {
 
     ghost files = { files_of };
 
-    ghost calls = { calls_of };
+    ghost calls = { λ s. (calls_of s).made };
 
     ghost faults = { faults_of };
 
-    fn file(&mut self, alloc: Global, name: &[u8]) -> Result<Octets, ShelfFault> {
-        let call = self.calls;
-        self.calls = raised(call);
-        if !self.failing.contains(&call) {
-            if let Some(text) = text_under(&self.files, name) {
-                return Ok(Octets::from_slice(alloc, text.as_slice())?);
+    /// The whole text of the file of that name. `Failed` comes exactly where the call is one of those that are to fail or
+    /// no file has the name, and is counted once.
+    fn file(&mut self, alloc: Global, name: &[u8]) -> Result<Octets, ShelfFault>
+        ensures text { IfOk result (λ text. IfSome (files_of self.old) (λ all. text_of name.now all ≡ Some text)) }
+        ensures files { files_of self.new ≡ files_of self.old }
+        ensures calls { calls_of self.new ≡ one_more (calls_of self.old) }
+        ensures fails { IsErrOf result ShelfFault.Failed ↔ (IsFailing (calls_of self.old) ⊎ IfSome (files_of self.old) (λ all. text_of name.now all ≡ None)) }
+        ensures failed { IsErrOf result ShelfFault.Failed → faults_of self.new ≡ next_count (faults_of self.old) }
+        ensures kept { faults_of self.old ≤ faults_of self.new }
+        ensures spared { IsErrOf result ShelfFault.Failed ⊎ (faults_of self.new ≡ faults_of self.old) }
+    {
+        let fails = self.calls.next_fails();
+        match text_under(&self.files, name) {
+            Some(text) if !fails => Ok(Octets::from_slice(alloc, text.as_slice())?),
+            _ => {
+                self.faults = raised(self.faults);
+                Err(ShelfFault::Failed)
             }
         }
-        self.faults = raised(self.faults);
-        Err(ShelfFault::Failed)
     }
 }

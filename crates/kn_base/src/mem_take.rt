@@ -3,7 +3,7 @@
 use crate::Octets;
 
 /// What a peer in memory answers to takes.
-#[derive(Debug, Drop)]
+#[derive(Drop)]
 pub enum MemTake {
     /// These octets, in as many takes as the buffers ask for. Without octets it is passed over.
     Bytes(Octets),

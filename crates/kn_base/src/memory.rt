@@ -3,7 +3,7 @@
 use std::alloc::{AllocError, AllocFailed};
 
 /// There was no memory for what was asked.
-#[derive(Clone, Copy, Debug, PartialEq, Eq, Hash)]
+#[derive(Clone, Copy, Debug)]
 pub struct Memory;
 
 impl From<AllocError> for Memory {

@@ -7,7 +7,7 @@ use std::alloc::Global;
 use std::marker::Model;
 
 /// Octets in order, each a number below 256.
-#[derive(Debug, Drop)]
+#[derive(Drop)]
 pub struct Octets {
     items: Vec<u8>,
 }

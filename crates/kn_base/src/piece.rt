@@ -3,7 +3,7 @@
 use crate::{Items, Octets};
 
 /// Octets that came in or went out in one call.
-#[derive(Debug, Drop)]
+#[derive(Drop)]
 pub enum Piece {
     /// They were taken from the peer.
     Heard(Octets),
@@ -12,7 +12,7 @@ pub enum Piece {
 }
 
 /// A connection that is over.
-#[derive(Debug, Drop)]
+#[derive(Drop)]
 pub struct Past {
     /// What was heard and said, in order.
     pub pieces: Items<Piece>,

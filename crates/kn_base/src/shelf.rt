@@ -8,7 +8,7 @@ use crate::{Memory, Octets};
 use std::alloc::Global;
 
 /// Why a file's text could not be had.
-#[derive(Clone, Copy, Debug, PartialEq, Eq, Hash)]
+#[derive(Clone, Copy)]
 pub enum ShelfFault {
     /// The file could not be read, or isn't there. The count of faults rose.
     Failed,

@@ -6,7 +6,7 @@ ghost use Rattle.kn_base.specs.Course.{Gives};
 use crate::Meter;
 
 /// What a give answers.
-#[derive(Clone, Copy, Debug, PartialEq, Eq, Hash)]
+#[derive(Clone, Copy, Debug, PartialEq)]
 pub enum Give {
     /// The first so many octets went out, one at least.
     Took(usize),

@@ -6,7 +6,7 @@ ghost use Rattle.kn_base.specs.Course.{Takes};
 use crate::Meter;
 
 /// What a take answers.
-#[derive(Clone, Copy, Debug, PartialEq, Eq, Hash)]
+#[derive(Clone, Copy, Debug, PartialEq)]
 pub enum Take {
     /// The first so many octets of the buffer are the next ones, one at least.
     Bytes(usize),

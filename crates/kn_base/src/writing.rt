@@ -5,7 +5,7 @@ ghost use Rattle.kn_base.specs.Talk.{WritesAll};
 use crate::{Give, Sink};
 
 /// What came of giving octets to a sink.
-#[derive(Clone, Copy, Debug, PartialEq, Eq, Hash)]
+#[derive(Clone, Copy, Debug, PartialEq)]
 pub enum Wrote {
     /// All of them went out.
     All,

@@ -69,7 +69,7 @@ handed_alone (sms ∷ []) now below one all = record {
   time_below = below;
   small =
       let size = length-sms_octets sms (All-head IsSms sms [] all) in
-      let e : accept_size (sms ∷ []) ≡ 11 + (0 + length (sms_octets sms)) = refl in
+      let e : accept_size (record { time = now; parts = sms ∷ [] }) ≡ 11 + (0 + length (sms_octets sms)) = refl in
       omega (arith, size, e);
 }
 handed_alone (sms ∷ other ∷ parts) now below one all = absurd (omega arith)

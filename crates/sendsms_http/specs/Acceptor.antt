@@ -19,9 +19,9 @@ entry_limit = 16777212
 
 -- Messages that one entry can hold, at a reading of the clock.
 pub record MayBeHanded (parts : List Sms) (time : ℕ) : Type 0 where
-  pub accept : IsAccept time parts
+  pub accept : IsAccept (record { time = time; parts = parts })
   pub time_below : time < 2 ^ 37
-  pub small : accept_size parts ≤ entry_limit
+  pub small : accept_size (record { time = time; parts = parts }) ≤ entry_limit
 
 -- the deed wasn't refused because the disk failed
 abbrev pub IsSpared : Deed → Type 0

@@ -1,10 +1,4 @@
-pub mod Growing
-pub mod Readers
-pub mod Octets
-pub mod Elements
-pub mod Fields
 pub mod Headers
 pub mod Messages
-pub mod Fronts
-pub mod Many
 pub mod Entries
+pub mod Alone

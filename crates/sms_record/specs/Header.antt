@@ -15,9 +15,13 @@ element e = e.id ∷ length e.value ∷ e.value
 abbrev pub elements : List Element → List ℕ
 elements es = flat_map element es
 
--- well-formed: how many octets follow, and elements that fill them
+-- the header of elements: how many octets follow, and they
+abbrev pub header : List Element → List ℕ
+header es = length (elements es) ∷ elements es
+
+-- well-formed: the header of some elements
 abbrev pub IsHeader : List ℕ → Type 0
-IsHeader octets = (es : List Element) × (octets ≡ length (elements es) ∷ elements es)
+IsHeader octets = (es : List Element) × (octets ≡ header es)
 
 -- a message has no header or a well-formed one
 abbrev pub IsHeaderOrNone : List ℕ → Type 0

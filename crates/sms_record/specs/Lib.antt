@@ -1,8 +1,12 @@
+pub use Rattle.exact_octets.specs.Alphabet
+pub use Rattle.exact_octets.specs.Spelling
+pub use Rattle.exact_octets.specs.Fronts
+pub use Rattle.exact_octets.specs.Reading
 pub mod Header
-pub mod Room
+pub mod Codes
 pub mod Record
 pub mod Entry
-pub mod Growth
-pub mod Alphabet
-pub mod Reading
-pub mod Fronts
+pub mod Room
+pub mod HeaderReading
+pub mod RecordReading
+pub mod EntryReading

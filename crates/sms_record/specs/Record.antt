@@ -1,23 +1,21 @@
 -- What a message may hold, and the octets that it is kept as.
-use Rattle.std.specs.Prelude.{◌≡◌, ℕ, ◌<◌, ◌≤◌, ◌^◌, ◌%◌, ⊤, List, [], ◌∷◌, ◌++◌, length, All, Option, Some, None, IfSome, if◌then◌else◌}
-use Rattle.std.specs.Int.{w16, w32, w64, to_be_bytes}
-use Rattle.kn_base.specs.declared.charset.Charset.{Charset}
-use Rattle.kn_base.specs.declared.charset.Charset.TheVariants.{Utf8, Latin1, Utf16Be}
+use Rattle.std.specs.Prelude.{◌≡◌, ℕ, ◌<◌, ◌≤◌, ◌^◌, ◌%◌, ⊤, true, false, List, ◌∷◌, ◌++◌, [], length, All, IfSome}
+use Rattle.std.specs.Int.{w32, w64, to_be_bytes}
+pub use Rattle.exact_octets.specs.Alphabet.{IsDigit}
+pub use Rattle.exact_octets.specs.Spelling.{short, long}
 use Rattle.sms_record.specs.declared.address.Address.{Address}
 use Rattle.sms_record.specs.declared.address.Address.TheVariants.{Number, Text}
 use Rattle.sms_record.specs.declared.coding.Coding.{Coding}
 use Rattle.sms_record.specs.declared.coding.Coding.TheVariants.{Seven, Eight, Ucs2}
 use Rattle.sms_record.specs.declared.sms.Sms.{Sms}
+use Rattle.sms_record.specs.declared.limits.TheConstants.{MOST_DIGITS, MOST_TEXT, MOST_PARTS, LAST_CLASS, MOST_MASK, MOST_MINUTES, MOST_HEADER, MOST_BODY, MOST_NAME, MOST_URL}
+use Rattle.sms_record.specs.Codes.{coding_code, class_code, charset_code}
 use Rattle.sms_record.specs.Header.{IsHeaderOrNone}
 
--- a decimal digit in ASCII
-abbrev pub IsDigit : ℕ → Type 0
-IsDigit octet = (48 ≤ octet) × (octet ≤ 57)
-
--- a number has 1 to 15 digits (ITU-T E.164, section 6), a text at most 64 octets
+-- a number has at least one digit, and at most as many as ITU-T E.164, section 6, allows
 abbrev pub IsAddress : Address → Type 0
-IsAddress (Number plus digits) = (1 ≤ length digits) × (length digits ≤ 15) × All IsDigit digits
-IsAddress (Text octets) = length octets ≤ 64
+IsAddress (Number plus digits) = (1 ≤ length digits) × (length digits ≤ MOST_DIGITS) × All IsDigit digits
+IsAddress (Text octets) = length octets ≤ MOST_TEXT
 
 -- a body is of its coding: septets one in each octet, octets, or units of two octets
 abbrev pub IsOfCoding : Coding → List ℕ → Type 0
@@ -29,51 +27,36 @@ IsOfCoding Ucs2 body = length body % 2 ≡ 0
 pub record IsSms (sms : Sms) : Type 0 where
   pub sender : IsAddress sms.sender
   pub receiver : IsAddress sms.receiver
-  pub class : IfSome sms.class (λ class. class ≤ 3)
-  pub total : sms.total ≤ 100
+  pub class : IfSome sms.class (λ class. class ≤ LAST_CLASS)
+  pub total : sms.total ≤ MOST_PARTS
   pub part : (1 ≤ sms.part) × (sms.part ≤ sms.total)
-  pub mask : sms.mask ≤ 31
-  pub validity : sms.validity ≤ 43200
-  pub deferred : sms.deferred ≤ 43200
+  pub mask : sms.mask ≤ MOST_MASK
+  pub validity : sms.validity ≤ MOST_MINUTES
+  pub deferred : sms.deferred ≤ MOST_MINUTES
   pub time : sms.time < 2 ^ 37
-  pub udh_len : length sms.udh ≤ 140
+  pub udh_len : length sms.udh ≤ MOST_HEADER
   pub udh : IsHeaderOrNone sms.udh
-  pub body_len : length sms.body ≤ 2048
+  pub body_len : length sms.body ≤ MOST_BODY
   pub body : IsOfCoding sms.coding sms.body
-  pub smsc : length sms.smsc ≤ 64
-  pub url : length sms.url ≤ 2048
-  pub account : length sms.account ≤ 64
-  pub service : length sms.service ≤ 64
+  pub smsc : length sms.smsc ≤ MOST_NAME
+  pub url : length sms.url ≤ MOST_URL
+  pub account : length sms.account ≤ MOST_NAME
+  pub service : length sms.service ≤ MOST_NAME
 
--- octets behind one octet that says how many they are
-abbrev pub short : List ℕ → List ℕ
-short octets = length octets ∷ octets
+-- the kind of an address: a number, a number behind a `+`, a text
+abbrev pub address_kind : Address → ℕ
+address_kind (Number false digits) = 0
+address_kind (Number true digits) = 1
+address_kind (Text octets) = 2
 
--- octets behind two octets that say how many they are, the high one first
-abbrev pub long : List ℕ → List ℕ
-long octets = to_be_bytes w16 (length octets) ++ octets
+-- the digits, or the text
+abbrev pub address_text : Address → List ℕ
+address_text (Number plus digits) = digits
+address_text (Text octets) = octets
 
--- a kind, 0 for a number, 1 for a number behind a `+`, 2 for a text, and the digits or the text
+-- its kind, and the digits or the text
 abbrev pub address : Address → List ℕ
-address (Number plus digits) = (if plus then 1 else 0) ∷ short digits
-address (Text octets) = 2 ∷ short octets
-
--- the octet of a coding
-abbrev pub coding_code : Coding → ℕ
-coding_code Seven = 0
-coding_code Eight = 1
-coding_code Ucs2 = 2
-
--- the octet of a class
-abbrev pub class_code : Option ℕ → ℕ
-class_code None = 255
-class_code (Some class) = class
-
--- the octet of a charset
-abbrev pub charset_code : Charset → ℕ
-charset_code Utf8 = 0
-charset_code Latin1 = 1
-charset_code Utf16Be = 2
+address from_or_to = address_kind from_or_to ∷ short (address_text from_or_to)
 
 -- coding, class, charset, total, part and mask, an octet each
 abbrev pub marks : Sms → List ℕ

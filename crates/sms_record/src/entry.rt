@@ -1,7 +1,7 @@
-//! Entries of the journal: messages that were taken together.
+//! Entries: what the journal keeps, one type a kind.
+//!
+//! The first octet of an entry is its kind. The octets are all of the entry: nothing may stand behind it.
 
-mod reading;
-mod writing;
+mod accept;
 
-pub use reading::{one_entry, read_accept};
-pub use writing::write_accept;
+pub use accept::{Accept, read_accept, write_accept};

@@ -1,7 +1,7 @@
 //! The kinds of delivery reports, with the values of their bits in a message's mask.
 
 /// What became of a message, as a report says.
-#[derive(Clone, Copy, Debug, PartialEq, Eq, Hash)]
+#[derive(Clone, Copy)]
 pub enum Kind {
     /// Delivered to the phone.
     Delivered = 1,

@@ -1,7 +1,8 @@
 //! One short message with all that the gateway keeps of it, and the octets that it is kept as.
 //!
 //! `Sms` is the message: from whom (`Address`), how its body is coded (`Coding`), which reports are asked for (`Kind`).
-//! Its octets are its record; several messages that were taken together are an entry of the journal (`entry`).
+//! Its octets are its record; messages that were taken together are an entry of the journal (`entry`). `header` reads the
+//! user data header, a message's own and any other.
 //!
 //! The one contract: a record reads back, whatever octets follow it. What is read is spelled so, octet for octet, and
 //! each `RecordFault` says exactly what the octets are: a proper front of a record, or octets that go wrong at a place.
@@ -9,23 +10,16 @@
 
 mod address;
 mod coding;
-mod copying;
 pub mod entry;
-mod fault;
+pub mod header;
 mod kind;
 pub mod limits;
-mod reading;
+mod record;
 mod sms;
-mod writing;
 
 pub use address::Address;
 pub use coding::Coding;
-pub use copying::copy_sms;
-pub use fault::RecordFault;
+pub use exact_octets::RecordFault;
 pub use kind::Kind;
-pub use reading::{one_record, read_sms};
+pub use record::{copy_sms, read_sms, write_sms};
 pub use sms::Sms;
-pub use writing::write_sms;
-
-#[cfg(test)]
-mod tests;

@@ -4,7 +4,7 @@ use crate::{Address, Coding};
 use kn_base::{Charset, Octets};
 
 /// One message, or one part of a longer one, with what its requester asked for.
-#[derive(Debug, Drop)]
+#[derive(Drop)]
 pub struct Sms {
     pub sender: Address,
     pub receiver: Address,

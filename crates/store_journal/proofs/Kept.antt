@@ -1,39 +1,38 @@
 -- What the calls of a journal keep.
-use Rattle.std.proofs.Common.{◌≡◌, ℕ, ◌+◌, ◌-◌, ◌<◌, ◌≤◌, false, List, [], ◌∷◌, ◌++◌, length, take, drop, sym, ◌∙◌, ap, subst, arith, length-append, append_assoc, Option, Some, None}
-use Rattle.std.specs.Prelude.{IfSome}
+use Rattle.std.proofs.Common.{◌≡◌, ℕ, ◌+◌, ◌-◌, ◌<◌, ◌≤◌, false, List, [], ◌∷◌, ◌++◌, length, take, drop, sym, ◌∙◌, ap, subst, arith, length-append, append_assoc, Bool, true}
+use Rattle.std.specs.Bool.{OnTrue}
 use Rattle.store_journal.specs.Disk.{Areas, after_write}
 use Rattle.store_journal.specs.Area.{stands, born, gate_place, unit, units, IsPayload, IsStored}
 use Rattle.store_journal.specs.declared.area.Area.{Area}
 use Rattle.store_journal.specs.Journal.{IsJournal, left, reserved}
 use Rattle.store_journal.specs.declared.journal.Journal.{Journal}
 use Rattle.std.proofs.lemmas.List.{append-nil}
-use Rattle.std.proofs.lemmas.List.Elements.{All-append}
-use Rattle.store_journal.proofs.Units.{all_more, units-append}
+use Rattle.std.proofs.lemmas.List.Elements.{All-append, All-from_recursion}
+use Rattle.std.proofs.lemmas.List.Concat.{flat_map-append}
 use Rattle.store_journal.proofs.Texts.{stands_stored, stored_more}
 
--- what is told stands for the payloads
-pub stands_kept : (told : Option Areas) (area : Area) (birth : ℕ) (payloads : List (List ℕ)) → IfSome told (λ areas. IsStored areas area birth payloads) → IfSome told (λ areas. stands areas ≡ born birth area payloads)
-stands_kept None area birth payloads is = is
-stands_kept (Some areas) area birth payloads is = stands_stored areas area birth payloads is
+-- areas that hold payloads stand for them, where that is told
+pub stands_kept : (tells : Bool) (areas : Areas) (area : Area) (birth : ℕ) (payloads : List (List ℕ)) → OnTrue tells (IsStored areas area birth payloads) → OnTrue tells (stands areas ≡ born birth area payloads)
+stands_kept true areas area birth payloads is = stands_stored areas area birth payloads is
+stands_kept false areas area birth payloads is = tt
 
--- what is told after an append holds one payload more
-pub more_kept : (told now : Option Areas) (area : Area) (birth : ℕ) (payloads : List (List ℕ)) (payload : List ℕ) (place : ℕ) (bytes : List ℕ) → IsPayload payload → place ≡ gate_place payloads → bytes ≡ unit payload ++ 0 ∷ []
-    → now ≡ after_write area place bytes told → IfSome told (λ areas. IsStored areas area birth payloads) → IfSome now (λ areas. IsStored areas area birth (payloads ++ payload ∷ []))
-more_kept None now area birth payloads payload place bytes size at is written kept =
-    subst (λ (t : Option Areas). IfSome t (λ areas. IsStored areas area birth (payloads ++ payload ∷ []))) (sym written) tt
-more_kept (Some areas) now area birth payloads payload place bytes size at is written kept =
-    subst (λ (t : Option Areas). IfSome t (λ areas. IsStored areas area birth (payloads ++ payload ∷ [])))
-    (sym (written ∙ (λ i. after_write area (at i) (is i) (Some areas))))
-    (stored_more areas area birth payloads payload size kept)
+-- areas hold one payload more after an append, where that is told
+more_kept : (tells : Bool) (old now : Areas) (area : Area) (birth : ℕ) (payloads : List (List ℕ)) (payload : List ℕ) (place : ℕ) (bytes : List ℕ) → IsPayload payload → place ≡ gate_place payloads → bytes ≡ unit payload ++ 0 ∷ []
+    → OnTrue tells (now ≡ after_write area place bytes old) → OnTrue tells (IsStored old area birth payloads) → OnTrue tells (IsStored now area birth (payloads ++ payload ∷ []))
+more_kept true old now area birth payloads payload place bytes size at is written kept =
+    subst (λ (areas : Areas). IsStored areas area birth (payloads ++ payload ∷ []))
+    (sym (written ∙ (λ i. after_write area (at i) (is i) old)))
+    (stored_more old area birth payloads payload size kept)
+more_kept false old now area birth payloads payload place bytes size at is written kept = tt
 
 -- a journal after an append
-pub appended : {D : Type 0} (contents : D → Option Areas) (old new : Journal D) (birth : ℕ) (payloads : List (List ℕ)) → IsJournal contents old birth payloads
+pub appended : {D : Type 0} (tells : Bool) (contents : D → Areas) (old new : Journal D) (birth : ℕ) (payloads : List (List ℕ)) → IsJournal tells contents old birth payloads
     → left old ≡ [] → 0 < length (reserved old)
     → new.broken ≡ false → new.birth ≡ old.birth → new.area ≡ old.area → left new ≡ left old → new.place ≤ length new.octets.items
     → new.end ≡ old.end + (length old.unit.items - 1) → new.unit.items ≡ []
-    → contents new.disk ≡ after_write old.area old.end old.unit.items (contents old.disk)
-    → IsJournal contents new birth (payloads ++ reserved old ∷ [])
-appended contents old new birth payloads is ended some whole same_birth same_area same_left place on empty written =
+    → OnTrue tells (contents new.disk ≡ after_write old.area old.end old.unit.items (contents old.disk))
+    → IsJournal tells contents new birth (payloads ++ reserved old ∷ [])
+appended tells contents old new birth payloads is ended some whole same_birth same_area same_left place on empty written =
     let payload = reserved old in
     let ready : old.unit.items ≡ unit payload ++ 0 ∷ [] = is.ready some in
     let size : IsPayload payload = is.fits some in
@@ -44,23 +43,23 @@ appended contents old new birth payloads is ended some whole same_birth same_are
       whole = whole;
       born = same_birth ∙ is.born;
       small = is.small;
-      sizes = All-append IsPayload payloads (payload ∷ []) is.sizes (all_more payload [] size (λ k d below. absurd (omega arith)));
+      sizes = All-append IsPayload payloads (payload ∷ []) is.sizes (All-from_recursion IsPayload (payload ∷ []) (size, tt));
       split = sym (ap (λ l. (payloads ++ payload ∷ []) ++ l) (same_left ∙ ended) ∙ append-nil (payloads ++ payload ∷ []));
       place = place;
-      end = on ∙ omega (arith, is.end, long, ap length (units-append payloads (payload ∷ [])), length-append (units payloads) (units (payload ∷ [])), length-append (unit payload) []);
+      end = on ∙ omega (arith, is.end, long, ap length (flat_map-append unit payloads (payload ∷ [])), length-append (units payloads) (units (payload ∷ [])), length-append (unit payload) []);
       ready = λ more. absurd (omega (arith, ap length none));
       fits = λ more. absurd (omega (arith, ap length none));
-      stored = subst (λ area. IfSome (contents new.disk) (λ areas. IsStored areas area birth (payloads ++ payload ∷ []))) (sym same_area)
-          (more_kept (contents old.disk) (contents new.disk) old.area birth payloads payload old.end old.unit.items size is.end ready written is.stored);
+      stored = subst (λ area. OnTrue tells (IsStored (contents new.disk) area birth (payloads ++ payload ∷ []))) (sym same_area)
+          (more_kept tells (contents old.disk) (contents new.disk) old.area birth payloads payload old.end old.unit.items size is.end ready written is.stored);
     }
 
 -- a journal that is one unit further on
-pub handed_on : {D : Type 0} (contents : D → Option Areas) (old new : Journal D) (birth : ℕ) (payloads : List (List ℕ)) → IsJournal contents old birth payloads
+pub handed_on : {D : Type 0} (tells : Bool) (contents : D → Areas) (old new : Journal D) (birth : ℕ) (payloads : List (List ℕ)) → IsJournal tells contents old birth payloads
     → (payload : List ℕ) → left old ≡ payload ∷ left new
     → new.broken ≡ old.broken → new.birth ≡ old.birth → new.area ≡ old.area → new.place ≤ length new.octets.items
     → new.end ≡ old.end → new.unit.items ≡ old.unit.items → new.disk ≡ old.disk
-    → IsJournal contents new birth payloads
-handed_on contents old new birth payloads is payload next whole same_birth same_area place on same_unit same_disk =
+    → IsJournal tells contents new birth payloads
+handed_on tells contents old new birth payloads is payload next whole same_birth same_area place on same_unit same_disk =
     let same : reserved new ≡ reserved old = ap (λ (l : List ℕ). take (length l - 6) (drop 5 l)) same_unit in
     record {
       handed = is.handed ++ payload ∷ [];
@@ -73,6 +72,6 @@ handed_on contents old new birth payloads is payload next whole same_birth same_
       end = on ∙ is.end;
       ready = λ more. same_unit ∙ is.ready (subst (λ (l : List ℕ). 0 < length l) same more) ∙ ap (λ l. unit l ++ 0 ∷ []) (sym same);
       fits = λ more. subst IsPayload (sym same) (is.fits (subst (λ (l : List ℕ). 0 < length l) same more));
-      stored = subst (λ area. IfSome (contents new.disk) (λ areas. IsStored areas area birth payloads)) (sym same_area)
-          (subst (λ disk. IfSome (contents disk) (λ areas. IsStored areas old.area birth payloads)) (sym same_disk) is.stored);
+      stored = subst (λ area. OnTrue tells (IsStored (contents new.disk) area birth payloads)) (sym same_area)
+          (subst (λ disk. OnTrue tells (IsStored (contents disk) old.area birth payloads)) (sym same_disk) is.stored);
     }

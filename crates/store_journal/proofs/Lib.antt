@@ -1,4 +1,4 @@
-pub mod Fronts
+pub mod Readers
 pub mod Kept
 pub mod Reopened
 pub mod Texts

@@ -1,7 +1,6 @@
 -- What the three areas of a disk hold, and what its calls do to them.
-use Rattle.std.specs.Prelude.{◌≡◌, ◌≤◌, ◌+◌, ℕ, List, ◌++◌, length, take, drop, min, Option, IfSome, Result, OnOk, OnErr}
-use Rattle.std.specs.Option.{option_map}
-use Rattle.kn_base.specs.Count.{Rose, last_count}
+use Rattle.std.specs.Prelude.{◌≡◌, ◌≤◌, ◌+◌, ℕ, Bool, true, List, [], ◌++◌, length, take, drop, Result, OnOk, OnErr}
+use Rattle.kn_base.specs.Count.{next_count}
 use Rattle.store_journal.specs.declared.area.Area.{Area}
 use Rattle.store_journal.specs.declared.area.Area.TheVariants.{A, B, Pick}
 use Rattle.store_journal.specs.declared.disk.DiskFailed.{DiskFailed}
@@ -11,6 +10,10 @@ pub record Areas : Type 0 where
   pub a : List ℕ
   pub b : List ℕ
   pub pick : List ℕ
+
+-- areas without octets
+abbrev pub no_areas : Areas
+no_areas = record { a = []; b = []; pick = [] }
 
 -- the octets of one area
 abbrev pub octets_of : Areas → Area → List ℕ
@@ -29,28 +32,51 @@ abbrev pub written : List ℕ → ℕ → List ℕ → List ℕ
 written octets at bytes = take at octets ++ bytes ++ drop (at + length bytes) octets
 
 -- the areas after a write to one of them
-abbrev pub write_area : Area → ℕ → List ℕ → Areas → Areas
-write_area area at bytes areas = with_octets areas area (written (octets_of areas area) at bytes)
+abbrev pub after_write : Area → ℕ → List ℕ → Areas → Areas
+after_write area at bytes areas = with_octets areas area (written (octets_of areas area) at bytes)
 
--- what is told after a write, where contents are told
-abbrev pub after_write : Area → ℕ → List ℕ → Option Areas → Option Areas
-after_write area at bytes told = option_map (write_area area at bytes) told
+-- all areas but one hold what they held
+abbrev pub OthersStay : Area → Areas → Areas → Type 0
+OthersStay area old new = new ≡ with_octets old area (octets_of new area)
 
--- an area has this many octets, where contents are told
-abbrev pub HasSize : Option Areas → Area → ℕ → Type 0
-HasSize told area size = IfSome told (λ areas. size ≡ length (octets_of areas area))
+-- of each area, whether all that was written to it was synced since
+pub record Synced : Type 0 where
+  pub a : Bool
+  pub b : Bool
+  pub pick : Bool
 
--- a place is no further than an area's end, where contents are told
-abbrev pub IsWithin : Option Areas → Area → ℕ → Type 0
-IsWithin told area place = IfSome told (λ areas. place ≤ length (octets_of areas area))
+-- all areas are synced
+abbrev pub all_synced : Synced
+all_synced = record { a = true; b = true; pick = true }
 
--- octets are those of an area from a place on, where contents are told
-abbrev pub Reads : Option Areas → Area → ℕ → List ℕ → Type 0
-Reads told area at octets = IfSome told (λ areas. octets ≡ take (length octets) (drop at (octets_of areas area)))
+-- whether one area is synced
+abbrev pub is_synced : Synced → Area → Bool
+is_synced synced A = synced.a
+is_synced synced B = synced.b
+is_synced synced Pick = synced.pick
 
--- Each call is counted. The count of faults stays at Ok and rises at a fault, and neither count falls.
-pub record Counts {T : Type 0} (calls calls_now faults faults_now : ℕ) (result : Result T DiskFailed) : Type 0 where
-  pub counted : calls_now ≡ min (calls + 1) last_count
+-- the same of all areas but one, which is synced now or isn't
+abbrev pub with_synced : Synced → Area → Bool → Synced
+with_synced synced A now = record { a = now; b = synced.b; pick = synced.pick }
+with_synced synced B now = record { a = synced.a; b = now; pick = synced.pick }
+with_synced synced Pick now = record { a = synced.a; b = synced.b; pick = now }
+
+-- all areas but one hold what they held, and are synced if they were
+pub record ChangesOnly (area : Area) (old new : Areas) (synced synced_now : Synced) : Type 0 where
+  pub octets : OthersStay area old new
+  pub syncs : synced_now ≡ with_synced synced area (is_synced synced_now area)
+
+-- a place is no further than an area's end
+abbrev pub IsWithin : Areas → Area → ℕ → Type 0
+IsWithin areas area place = place ≤ length (octets_of areas area)
+
+-- octets are those of an area from a place on
+abbrev pub Reads : Areas → Area → ℕ → List ℕ → Type 0
+Reads areas area at octets = octets ≡ take (length octets) (drop at (octets_of areas area))
+
+-- A call is counted, and where it failed, so is its fault. Neither count falls.
+pub record CountsCall {T : Type 0} (calls calls_now faults faults_now : ℕ) (result : Result T DiskFailed) : Type 0 where
+  pub counted : calls_now ≡ next_count calls
   pub kept : faults ≤ faults_now
   pub ok : OnOk result (faults_now ≡ faults)
-  pub failed : OnErr result (Rose faults faults_now)
+  pub failed : OnErr result (faults_now ≡ next_count faults)

@@ -1,14 +1,13 @@
 -- What a journal keeps, and what its calls answer.
-use Rattle.std.specs.Prelude.{◌≡◌, ◌<◌, ◌≤◌, ◌-◌, ◌^◌, ℕ, Bool, false, List, [], ◌∷◌, ◌++◌, length, take, drop, All, Option, Some, None, Result, Ok, Err, IfSome, OnOk, IsErrOf}
-use Rattle.store_journal.specs.Disk.{Areas, octets_of, after_write}
-use Rattle.store_journal.specs.Area.{Standing, unborn, born, foreign, stands, gate_place, unit, area_text, payloads_in, IsPayload, IsStored}
-use Rattle.kn_base.specs.Count.{Rose}
+use Rattle.std.specs.Prelude.{◌≡◌, ◌<◌, ◌≤◌, ◌-◌, ◌^◌, ℕ, Bool, false, List, [], ◌∷◌, ◌++◌, length, take, drop, All, Option, Some, None, Result, Ok, Err}
+use Rattle.std.specs.Bool.{OnTrue}
+use Rattle.store_journal.specs.Disk.{Areas, after_write, Synced, all_synced}
+use Rattle.store_journal.specs.Area.{Standing, unborn, born, foreign, stands, gate_place, unit, payloads_in, IsPayload, IsStored}
 use Rattle.store_journal.specs.declared.area.Area.{Area}
-use Rattle.store_journal.specs.declared.area.Area.TheVariants.{A, B, Pick}
+use Rattle.store_journal.specs.declared.area.Area.TheVariants.{A}
 use Rattle.store_journal.specs.declared.fault.OpenFault.{OpenFault}
 use Rattle.store_journal.specs.declared.fault.OpenFault.TheVariants.{Foreign, Disk, Memory}
 use Rattle.store_journal.specs.declared.journal.Journal.{Journal}
-use Rattle.store_journal.specs.declared.open.Found.{Found}
 
 module _ {D : Type 0} where
   -- the disk of a journal
@@ -31,13 +30,17 @@ module _ {D : Type 0} where
   abbrev pub left : Journal D → List (List ℕ)
   left journal = payloads_in (drop journal.place journal.octets.items)
 
+  -- all payloads that the opening found are handed out
+  abbrev pub IsHandedOut : Journal D → Type 0
+  IsHandedOut journal = left journal ≡ []
+
   -- the payload that the next append appends, empty where none is reserved
   abbrev pub reserved : Journal D → List ℕ
   reserved journal = take (length journal.unit.items - 6) (drop 5 journal.unit.items)
 
   -- The journal holds these payloads: it isn't broken, what is left to hand out is the end of them, and its disk
   -- stands for them, where contents are told.
-  pub record IsJournal (contents : D → Option Areas) (journal : Journal D) (birth : ℕ) (payloads : List (List ℕ)) : Type 0 where
+  pub record IsJournal (tells : Bool) (contents : D → Areas) (journal : Journal D) (birth : ℕ) (payloads : List (List ℕ)) : Type 0 where
     pub handed : List (List ℕ)
     pub whole : journal.broken ≡ false
     pub born : journal.birth ≡ birth
@@ -48,28 +51,28 @@ module _ {D : Type 0} where
     pub end : journal.end ≡ gate_place payloads
     pub ready : 0 < length (reserved journal) → journal.unit.items ≡ unit (reserved journal) ++ 0 ∷ []
     pub fits : 0 < length (reserved journal) → IsPayload (reserved journal)
-    pub stored : IfSome (contents journal.disk) (λ areas. IsStored areas journal.area birth payloads)
+    pub stored : OnTrue tells (IsStored (contents journal.disk) journal.area birth payloads)
 
   -- the journal holds some payloads
-  abbrev pub IsKept : (D → Option Areas) → Journal D → Type 0
-  IsKept contents journal = (birth : ℕ) × (payloads : List (List ℕ)) × IsJournal contents journal birth payloads
+  abbrev pub IsKept : Bool → (D → Areas) → Journal D → Type 0
+  IsKept tells contents journal = (birth : ℕ) × (payloads : List (List ℕ)) × IsJournal tells contents journal birth payloads
 
   -- whatever payloads the journal held, it holds them with more behind them
-  abbrev pub HoldsMore : (D → Option Areas) → Journal D → Journal D → List (List ℕ) → Type 0
-  HoldsMore contents old new more =
-      (birth : ℕ) (payloads : List (List ℕ)) → IsJournal contents old birth payloads → IsJournal contents new birth (payloads ++ more)
+  abbrev pub HoldsMore : Bool → (D → Areas) → Journal D → Journal D → List (List ℕ) → Type 0
+  HoldsMore tells contents old new more =
+      (birth : ℕ) (payloads : List (List ℕ)) → IsJournal tells contents old birth payloads → IsJournal tells contents new birth (payloads ++ more)
 
   -- whatever payloads the journal held, it still holds
-  abbrev pub HoldsSame : (D → Option Areas) → Journal D → Journal D → Type 0
-  HoldsSame contents old new =
-      (birth : ℕ) (payloads : List (List ℕ)) → IsJournal contents old birth payloads → IsJournal contents new birth payloads
+  abbrev pub HoldsSame : Bool → (D → Areas) → Journal D → Journal D → Type 0
+  HoldsSame tells contents old new =
+      (birth : ℕ) (payloads : List (List ℕ)) → IsJournal tells contents old birth payloads → IsJournal tells contents new birth payloads
 
   -- The picked area is written over at the place of its closed gate, with the reserved payload in its unit and the
-  -- next closed gate, where contents are told. All else stays.
-  abbrev pub AppendsUnit : (D → Option Areas) → Journal D → Journal D → Type 0
-  AppendsUnit contents old new =
-      (birth : ℕ) (payloads : List (List ℕ)) → IsJournal contents old birth payloads
-      → contents (disk_of new) ≡ after_write (area_of old) (gate_place payloads) (unit (reserved old) ++ 0 ∷ []) (contents (disk_of old))
+  -- next closed gate. All else stays.
+  abbrev pub AppendsUnit : Bool → (D → Areas) → Journal D → Journal D → Type 0
+  AppendsUnit tells contents old new =
+      (birth : ℕ) (payloads : List (List ℕ)) → IsJournal tells contents old birth payloads
+      → OnTrue tells (contents (disk_of new) ≡ after_write (area_of old) (gate_place payloads) (unit (reserved old) ++ 0 ∷ []) (contents (disk_of old)))
 
 -- what an opening of areas that stand so finds: the birth, the area and the payloads, none where the store is born with this birth
 abbrev pub OpensAs : Standing → ℕ → ℕ → Area → List (List ℕ) → Type 0
@@ -77,27 +80,17 @@ OpensAs unborn birth now area payloads = (now ≡ birth) × (area ≡ A) × (pay
 OpensAs (born old stood_in stood) birth now area payloads = (now ≡ old) × (area ≡ stood_in) × (payloads ≡ stood)
 OpensAs (foreign stood_in at) birth now area payloads = ⊥
 
--- what was found at an opening, where contents are told as before and as now
-pub record IsFound (before now : Option Areas) (birth : ℕ) (found : Found) (payloads : List (List ℕ)) : Type 0 where
-  pub small : found.birth < 2 ^ 64
-  pub sizes : All IsPayload payloads
-  pub left : payloads_in (drop found.place found.octets.items) ≡ payloads
-  pub place : found.place ≤ length found.octets.items
-  pub end : found.end ≡ gate_place payloads
-  pub stored : IfSome now (λ areas. IsStored areas found.area found.birth payloads)
-  pub stood : IfSome before (λ areas. OpensAs (stands areas) birth found.birth found.area payloads)
+-- which areas are synced after an opening of areas that stand so: all of them after a birth, and else as before
+abbrev pub synced_after : Standing → Synced → Synced
+synced_after unborn synced = all_synced
+synced_after (born birth area payloads) synced = synced
+synced_after (foreign area at) synced = synced
 
--- The count of faults stays at Ok, never falls, and rises where Disk is answered.
-pub record Spares {T : Type 0} (faults faults_now : ℕ) (result : Result T OpenFault) : Type 0 where
-  pub kept : faults ≤ faults_now
-  pub ok : OnOk result (faults_now ≡ faults)
-  pub failed : IsErrOf result Disk → Rose faults faults_now
-
--- an opening answers Foreign only where the areas are, in that area at that place, where contents are told
-abbrev pub IsCause : Option Areas → OpenFault → Type 0
-IsCause told (Foreign area at) = IfSome told (λ areas. stands areas ≡ foreign area at)
-IsCause told Disk = Unit {0}
-IsCause told Memory = Unit {0}
+-- an opening answers Foreign only where the areas are, in that area at that place
+abbrev pub IsCause : Areas → OpenFault → Type 0
+IsCause areas (Foreign area at) = stands areas ≡ foreign area at
+IsCause areas Disk = Unit {0}
+IsCause areas Memory = Unit {0}
 
 -- the next of the payloads that are left: the first of them, None where there is none, and want of memory leaves them
 abbrev pub Hands : List (List ℕ) → Result (Option (List ℕ)) OpenFault → List (List ℕ) → Type 0
@@ -105,27 +98,11 @@ Hands left (Ok None) now = (left ≡ []) × (now ≡ [])
 Hands left (Ok (Some payload)) now = left ≡ payload ∷ now
 Hands left (Err fault) now = (fault ≡ Memory) × (now ≡ left)
 
--- an area holds more than a birth would write, where its contents are told, or the disk failed
-abbrev pub IsMore : Option Areas → Area → OpenFault → Type 0
-IsMore told area (Foreign more at) = (more ≡ area) × (at ≡ 17) × IfSome told (λ areas. 17 < length (octets_of areas area))
-IsMore told area Disk = Unit {0}
-IsMore told area Memory = ⊥
-
 -- a fact that holds unless the disk failed
 abbrev pub IsUnlessDisk : OpenFault → Type 0 → Type 0
 IsUnlessDisk Disk P = Unit {0}
 IsUnlessDisk fault P = P
 
--- what is told after a birth: both areas have a header and a closed gate, and Pick picks the first
-abbrev pub after_birth : ℕ → Option Areas → Option Areas
-after_birth birth told = after_write Pick 0 (1 ∷ []) (after_write B 0 (area_text birth [] 0) (after_write A 0 (area_text birth [] 0) told))
-
--- Nothing is written to areas that stand for a store, or are foreign.
-abbrev pub IsUntouched : Option Areas → Option Areas → Type 0
-IsUntouched before now = IfSome before (λ areas. ¬ (stands areas ≡ unborn) → now ≡ before)
-
--- a fault that is not Foreign
-abbrev pub IsUnforeign : OpenFault → Type 0
-IsUnforeign (Foreign area at) = ⊥
-IsUnforeign Disk = Unit {0}
-IsUnforeign Memory = Unit {0}
+-- nothing is written to areas that stand for a store, or are foreign
+abbrev pub IsUntouched : Areas → Areas → Type 0
+IsUntouched before now = ¬ (stands before ≡ unborn) → now ≡ before

@@ -1,7 +1,7 @@
 //! The names of the three areas of a disk.
 
 /// One of the three areas of a disk. `A` and `B` hold payloads, and `Pick` says which of the two counts.
-#[derive(Clone, Copy, Debug, PartialEq, Eq, Hash)]
+#[derive(Clone, Copy, Debug, PartialEq)]
 pub enum Area {
     /// The first area of payloads.
     A,

@@ -4,10 +4,11 @@ ghost use Rattle.std.specs.Prelude.{◌≡◌};
 ghost use Rattle.store_journal.specs.declared.fault.OpenFault.TheVariants.{Disk, Memory};
 
 use crate::{Area, DiskFailed};
+use kn_base::Memory as WantOfMemory;
 use std::alloc::AllocError;
 
 /// Why an opening, or the handing out of its payloads, stopped.
-#[derive(Clone, Copy, Debug, PartialEq, Eq)]
+#[derive(Clone, Copy, Debug, PartialEq)]
 pub enum OpenFault {
     /// The areas are no store of ours: the first octet that doesn't fit stands in this area at this place.
     Foreign {
@@ -27,6 +28,14 @@ impl From<DiskFailed> for OpenFault {
 
     fn from(_failed: DiskFailed) -> OpenFault {
         OpenFault::Disk
+    }
+}
+
+impl From<WantOfMemory> for OpenFault {
+    ghost from_gives = { λ _ fault. fault ≡ Memory };
+
+    fn from(_memory: WantOfMemory) -> OpenFault {
+        OpenFault::Memory
     }
 }
 

@@ -1,27 +1,33 @@
 //! A disk of real files. It tells no contents: what a file holds is no matter of a proof.
 
-ghost use Rattle.std.specs.Prelude.{◌≡◌, IfOk, None};
+ghost use Rattle.std.specs.Prelude.{◌≡◌, IfOk, IsErr, MatchResult};
+ghost use Rattle.store_journal.specs.Disk.{CountsCall};
 
+use crate::disk::LAST_END;
+use crate::host_file::HostFile;
 use crate::{Area, Disk, DiskFailed};
-use kn_base::{Memory, Octets, raised};
+use kn_base::{Memory, raised};
 use std::alloc::Global;
-use std::fs::{File, Files, OpenOptions};
-use std::io::{self, Read, Seek, SeekFrom, Write};
-use std::os::unix::fs::OpenOptionsExt;
-use std::path::Path;
+use std::fs::{File, Files};
+use std::io;
 
-/// The mode of a file that is made: its owner may read and write it, since messages are nobody else's.
-const PRIVATE: u32 = 0o600;
-
-/// The last place at which a write may end, in octets.
-const LAST_END: u64 = 1 << 62;
-
-// The file of one area: its name, the file once it is open, and whether the folder was synced since then.
+// The files of the three areas.
 #[derive(Drop)]
-struct HostFile {
-    name: Octets,
-    file: Option<File>,
-    is_named: bool,
+struct HostFiles {
+    a: HostFile,
+    b: HostFile,
+    pick: HostFile,
+}
+
+impl HostFiles {
+    // The file of an area.
+    fn of(&mut self, area: Area) -> &mut HostFile {
+        match area {
+            Area::A => &mut self.a,
+            Area::B => &mut self.b,
+            Area::Pick => &mut self.pick,
+        }
+    }
 }
 
 /// The areas as the files NAME.a, NAME.b and NAME.pick, by a name that is a path. A file is opened, and
@@ -32,9 +38,7 @@ struct HostFile {
 #[derive(Drop)]
 pub struct HostDisk<R: Files<File = File>> {
     rt: R,
-    a: HostFile,
-    b: HostFile,
-    pick: HostFile,
+    files: HostFiles,
     calls: u64,
     faults: u64,
 }
@@ -47,170 +51,69 @@ impl<R: Files<File = File>> HostDisk<R> {
         ensures calls { IfOk result (λ disk. ⟦<HostDisk<R> as Disk>⟧.calls disk ≡ 0) }
         ensures faults { IfOk result (λ disk. ⟦<HostDisk<R> as Disk>⟧.faults disk ≡ 0) }
     {
+        let files = HostFiles {
+            a: HostFile::new(alloc, name, b".a")?,
+            b: HostFile::new(alloc, name, b".b")?,
+            pick: HostFile::new(alloc, name, b".pick")?,
+        };
         Ok(HostDisk {
-            a: host_file(alloc, name, b".a")?,
-            b: host_file(alloc, name, b".b")?,
-            pick: host_file(alloc, name, b".pick")?,
             rt,
+            files,
             calls: 0,
             faults: 0,
         })
     }
-}
 
-// The file of an area, which isn't opened.
-fn host_file(alloc: Global, name: &[u8], ending: &[u8]) -> Result<HostFile, Memory> {
-    let mut whole = Octets::from_slice(alloc, name)?;
-    whole.extend_from_slice(ending)?;
-    Ok(HostFile {
-        name: whole,
-        file: None,
-        is_named: false,
-    })
-}
-
-fn path_of(name: &[u8]) -> io::Result<&str> {
-    match str::from_utf8(name) {
-        Ok(path) => Ok(path),
-        Err(_) => Err(io::ErrorKind::InvalidInput.into()),
+    // Counts a call, and its fault where it failed.
+    fn count<T>(&mut self, done: io::Result<T>) -> Result<T, DiskFailed>
+        ensures counted { CountsCall self.old.calls self.new.calls self.old.faults self.new.faults result }
+        ensures value { MatchResult done (λ value. result ≡ Ok value) (λ _. IsErr result) }
+    {
+        self.calls = raised(self.calls);
+        match done {
+            Ok(value) => Ok(value),
+            Err(_) => {
+                self.faults = raised(self.faults);
+                Err(DiskFailed)
+            }
+        }
     }
-}
-
-// Syncs the folder that names the file at a path.
-fn sync_folder<R: Files<File = File>>(rt: &R, path: &str) -> io::Result<()> {
-    let folder = match Path::new(path).parent().and_then(|folder| folder.to_str()) {
-        Some(folder) if !folder.is_empty() => folder,
-        _ => ".",
-    };
-    OpenOptions::new().read(true).open(rt, folder)?.sync_all()
-}
-
-// The file of an area, which the first call opens, makes where it is missing, and locks.
-fn opened<'a, R: Files<File = File>>(rt: &R, area: &'a mut HostFile) -> io::Result<&'a mut File> {
-    if area.file.is_none() {
-        let path = path_of(area.name.as_slice())?;
-        let file = OpenOptions::new()
-            .read(true)
-            .write(true)
-            .create(true)
-            .mode(PRIVATE)
-            .open(rt, path)?;
-        file.try_lock()?;
-        area.file = Some(file);
-    }
-    match &mut area.file {
-        Some(file) => Ok(file),
-        None => Err(io::ErrorKind::NotFound.into()),
-    }
-}
-
-fn size<R: Files<File = File>>(rt: &R, area: &mut HostFile) -> io::Result<u64> {
-    opened(rt, area)?.seek(SeekFrom::End(0))
-}
-
-fn read<R: Files<File = File>>(
-    rt: &R,
-    area: &mut HostFile,
-    at: u64,
-    into: &mut [u8],
-) -> io::Result<()> {
-    let file = opened(rt, area)?;
-    file.seek(SeekFrom::Start(at))?;
-    file.read_exact(into)
-}
-
-fn write<R: Files<File = File>>(
-    rt: &R,
-    area: &mut HostFile,
-    at: u64,
-    bytes: &[u8],
-) -> io::Result<()> {
-    let file = opened(rt, area)?;
-    file.seek(SeekFrom::Start(at))?;
-    file.write_all(bytes)
-}
-
-fn sync<R: Files<File = File>>(rt: &R, area: &mut HostFile) -> io::Result<()> {
-    opened(rt, area)?.sync_all()?;
-    if !area.is_named {
-        sync_folder(rt, path_of(area.name.as_slice())?)?;
-        area.is_named = true;
-    }
-    Ok(())
 }
 
 impl<R: Files<File = File>> Disk for HostDisk<R> {
-    ghost contents = { λ disk. None };
+    ghost use Rattle.store_journal.specs.Disk.{no_areas, all_synced};
+    ghost use Rattle.std.specs.Prelude.{false};
+
+    ghost tells = { false };
+
+    ghost contents = { λ _. no_areas };
+
+    ghost synced = { λ _. all_synced };
 
     ghost faults = { λ disk. disk.faults };
 
     ghost calls = { λ disk. disk.calls };
 
     fn size(&mut self, area: Area) -> Result<u64, DiskFailed> {
-        self.calls = raised(self.calls);
-        let done = match area {
-            Area::A => size(&self.rt, &mut self.a),
-            Area::B => size(&self.rt, &mut self.b),
-            Area::Pick => size(&self.rt, &mut self.pick),
-        };
-        match done {
-            Ok(size) => Ok(size),
-            Err(_) => {
-                self.faults = raised(self.faults);
-                Err(DiskFailed)
-            }
-        }
+        let done = self.files.of(area).size(&self.rt);
+        self.count(done)
     }
 
     fn read(&mut self, area: Area, at: u64, into: &mut [u8]) -> Result<(), DiskFailed> {
-        self.calls = raised(self.calls);
-        let done = match area {
-            Area::A => read(&self.rt, &mut self.a, at, into),
-            Area::B => read(&self.rt, &mut self.b, at, into),
-            Area::Pick => read(&self.rt, &mut self.pick, at, into),
-        };
-        match done {
-            Ok(()) => Ok(()),
-            Err(_) => {
-                self.faults = raised(self.faults);
-                Err(DiskFailed)
-            }
-        }
+        let done = self.files.of(area).read(&self.rt, at, into);
+        self.count(done)
     }
 
     fn write_at(&mut self, area: Area, at: u64, bytes: &[u8]) -> Result<(), DiskFailed> {
-        self.calls = raised(self.calls);
         if at > LAST_END || bytes.len() as u64 > LAST_END - at {
-            self.faults = raised(self.faults);
-            return Err(DiskFailed);
+            return self.count(Err(io::ErrorKind::FileTooLarge.into()));
         }
-        let done = match area {
-            Area::A => write(&self.rt, &mut self.a, at, bytes),
-            Area::B => write(&self.rt, &mut self.b, at, bytes),
-            Area::Pick => write(&self.rt, &mut self.pick, at, bytes),
-        };
-        match done {
-            Ok(()) => Ok(()),
-            Err(_) => {
-                self.faults = raised(self.faults);
-                Err(DiskFailed)
-            }
-        }
+        let done = self.files.of(area).write(&self.rt, at, bytes);
+        self.count(done)
     }
 
     fn sync(&mut self, area: Area) -> Result<(), DiskFailed> {
-        self.calls = raised(self.calls);
-        let done = match area {
-            Area::A => sync(&self.rt, &mut self.a),
-            Area::B => sync(&self.rt, &mut self.b),
-            Area::Pick => sync(&self.rt, &mut self.pick),
-        };
-        match done {
-            Ok(()) => Ok(()),
-            Err(_) => {
-                self.faults = raised(self.faults);
-                Err(DiskFailed)
-            }
-        }
+        let done = self.files.of(area).sync(&self.rt);
+        self.count(done)
     }
 }

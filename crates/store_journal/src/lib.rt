@@ -6,14 +6,20 @@
 //! Its one contract: what an opening hands out is exactly what was appended with `Ok`, in order.
 #![tactic(auto)]
 
-mod again;
 mod area;
+mod area_text;
+mod birth;
+mod commit;
 mod disk;
 mod fault;
+mod found;
+mod header;
 mod host_disk;
+mod host_file;
 mod journal;
+mod mem_area;
 mod mem_disk;
-mod open;
+mod pick;
 mod unit;
 
 pub use area::Area;
@@ -22,6 +28,3 @@ pub use fault::OpenFault;
 pub use host_disk::HostDisk;
 pub use journal::Journal;
 pub use mem_disk::MemDisk;
-
-#[cfg(test)]
-mod tests;

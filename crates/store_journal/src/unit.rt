@@ -1,8 +1,11 @@
-//! The unit of a payload, as octets: read at a place, and written whole.
+//! The unit of a payload, as octets: read at the front, and written whole.
 
-ghost use Rattle.std.specs.Prelude.{◌≡◌, ◌++◌, ◌∷◌, [], length, true, SomeIff, IfOk, IsTrue};
-ghost use Rattle.store_journal.specs.Area.{IsPayload, begins_unit, size_behind, unit};
+ghost use Rattle.std.specs.Prelude.{◌≡◌, ◌++◌, ◌∷◌, [], IfOk, MatchOption};
+ghost use Rattle.exact_octets.specs.Reading.{Gives};
+ghost use Rattle.store_journal.specs.Area.{IsPayload, unit, unit_at as unit_front};
+ghost use Rattle.store_journal.specs.Opening.{IsFirstUnit, IsNoUnit};
 
+use exact_octets::{Alphabet, Numbers, ReadFault, counted_at, octet_at};
 use kn_base::Memory;
 use std::alloc::Global;
 
@@ -12,24 +15,33 @@ pub const OPEN: u8 = 1;
 /// The gate that ends the payloads.
 pub const CLOSED: u8 = 0;
 
-/// The octets of a gate and a length.
-pub const AROUND: usize = 5;
-
 /// The greatest length of a payload, in octets.
-pub const GREATEST: usize = 16_777_216;
+const GREATEST: u64 = 16_777_216;
 
-/// The length of the payload, where octets begin with a whole unit with an open gate.
-pub fn payload_size(octets: &[u8]) -> Option<usize>
-    ensures { SomeIff result (IsTrue (begins_unit octets.now)) (size_behind octets.now) }
+/// How many octets the length of a payload is written in.
+const LENGTH: usize = 4;
+
+// The payload of the unit with which octets begin, and what stands behind the unit.
+#[tactic(auto, unfolding(crate::specs::Area::unit_at))]
+fn unit_at(octets: &[u8]) -> Result<(&[u8], &[u8]), ReadFault>
+    ensures { Gives (λ x. (x.0.now, x.1.now)) result (unit_front octets.now) }
 {
-    if octets.len() < AROUND || octets[0] != OPEN {
-        return None;
+    let (_gate, rest) = octet_at(octets, OPEN, OPEN)?;
+    let sizes = Numbers::from_to(1, GREATEST);
+    let (payload, rest) = counted_at(rest, LENGTH, sizes, Alphabet::Any)?;
+    Ok((payload, rest))
+}
+
+/// The payload of the unit with which octets begin, if they begin with one, and what stands behind the unit.
+pub fn first_unit(octets: &[u8]) -> Result<Option<(&[u8], &[u8])>, Memory>
+    ensures { IfOk result (λ found. MatchOption found (IsNoUnit octets.now) (λ x. IsFirstUnit octets.now x.0.now x.1.now)) }
+{
+    match unit_at(octets) {
+        Ok(found) => Ok(Some(found)),
+        Err(ReadFault::Short) => Ok(None),
+        Err(ReadFault::Malformed { .. }) => Ok(None),
+        Err(ReadFault::Memory) => Err(Memory),
     }
-    let size = u32::from_be_bytes([octets[1], octets[2], octets[3], octets[4]]) as usize;
-    if size < 1 || size > GREATEST || size > octets.len() - AROUND {
-        return None;
-    }
-    Some(size)
 }
 
 /// A payload in its unit, and the closed gate behind it.

@@ -1,15 +1,13 @@
 use Rattle.std.proofs.Common.{sym, ◌∙◌}
 use Rattle.boxes_main.proofs.store.count_messages.Goals as goal
 
-pub returns-in-Ok-clause-ok : goal.returns-in-Ok-clause-ok
-returns-in-Ok-clause-ok c =
+pub returns-in-Ok : goal.returns-in-Ok
+returns-in-Ok c =
     let found = c.in-Ok.ensures.found in
-    (record { time = c.in-Ok.accept.0; parts = c.in-Ok.accept.1 }, found.0, sym c.as_slice.ensures ∙ found.1, c.len.ensures)
+    (c.in-Ok.accept, found.0, sym c.as_slice.ensures ∙ found.1, c.len.ensures)
 
-pub returns-in-Err-Short-clause-foreign : goal.returns-in-Err-Short-clause-foreign
-returns-in-Err-Short-clause-foreign c = λ _ accept is same.
-    rw c.in-Err-Short.field-0-is at (c.in-Err-Short.ensures.only accept.time accept.parts is (c.as_slice.ensures ∙ same))
+pub returns-in-Err-Short : goal.returns-in-Err-Short
+returns-in-Err-Short c = λ accept is same. rw c.in-Err-Short.field-0-is at (c.in-Err-Short.ensures.only accept is (c.as_slice.ensures ∙ same))
 
-pub returns-in-Err-Malformed-clause-foreign : goal.returns-in-Err-Malformed-clause-foreign
-returns-in-Err-Malformed-clause-foreign c = λ _ accept is same.
-    rw c.in-Err-Malformed.field-0-is at (c.in-Err-Malformed.ensures.only accept.time accept.parts is (c.as_slice.ensures ∙ same))
+pub returns-in-Err-Malformed : goal.returns-in-Err-Malformed
+returns-in-Err-Malformed c = λ accept is same. rw c.in-Err-Malformed.field-0-is at (c.in-Err-Malformed.ensures.only accept is (c.as_slice.ensures ∙ same))

@@ -1,37 +1,55 @@
-use Rattle.std.proofs.Common.{◌≡◌, ap, Err}
-use Rattle.store_journal.specs.Area.{stands, born}
-use Rattle.store_journal.specs.Disk.{Areas}
-use Rattle.store_journal.specs.Journal.{birth_of, area_of, left}
-use Rattle.store_journal.specs.declared.area.Area.{Area}
-use Rattle.boxes_main.proofs.Opening.{some_weaker}
-use Rattle.boxes_main.proofs.Loading.{HasLoaded-more, no_entries}
+use Rattle.std.proofs.Common.{◌∙◌, Some, None}
+use Rattle.store_journal.specs.Journal.{birth_of, left}
+use Rattle.boxes_main.proofs.Opening.{stands_somewhere}
+use Rattle.boxes_main.proofs.Loading.{HasLoaded-more, no_entries, handed_first, counted_so}
 use Rattle.boxes_main.proofs.store.load.Goals as goal
 
-pub returns-in-Err-count_messages-clause-foreign : goal.returns-in-Err-count_messages-clause-foreign
-returns-in-Err-count_messages-clause-foreign g c = λ foreign others each same.
-    let took = rw c.in-Ok-Some.field-0-is at c.in-Ok-Some.ensures.next in
-    no_entries g.D.Disk.contents c.args.journal c.loop-payload.journal c.next.new.self c.loop-payload.waiting c.in-Ok-Some.payload c.loop-payload.invariant took
-    (c.in-Err-count_messages.ensures.foreign (ap (λ f. Err f) foreign)) others each same
+pub returns-in-Ok-None-count_messages-clause-err : goal.returns-in-Ok-None-count_messages-clause-err
+returns-in-Ok-None-count_messages-clause-err g c =
+    let birth = birth_of c.args.journal in
+    let payloads = left c.args.journal in
+    let payload = c.in-Ok-Some.payload in
+    let now = c.loop-payload.journal in
+    let next = c.next.new.self in
+    let none = c.in-Ok-None-count_messages in
+    record {
+      cause = no_entries g.D.Disk.tells g.D.Disk.contents c.args.journal now next c.loop-payload.waiting payload c.loop-payload.invariant
+          (handed_first (left now) (left next) c.in-Ok-Some.field-0 payload c.in-Ok-Some.ensures.next c.in-Ok-Some.field-0-is)
+          (counted_so payload none.field-0 None none.ensures none.field-0-is);
+      same = c.close.ensures.disk ∙ (c.next.ensures.disk ∙ c.loop-payload.invariant.disk);
+      stood = stands_somewhere g.D.Disk.tells (g.D.Disk.contents c.close.result) birth _ payloads
+          (c.close.ensures.stands birth payloads (c.next.ensures.same birth payloads c.loop-payload.invariant.journal));
+    }
+
+pub returns-in-Err-count_messages-clause-err : goal.returns-in-Err-count_messages-clause-err
+returns-in-Err-count_messages-clause-err g c =
+    let birth = birth_of c.args.journal in
+    let payloads = left c.args.journal in
+    record {
+      cause = tt;
+      same = c.close-in-Err-count_messages.ensures.disk ∙ (c.next.ensures.disk ∙ c.loop-payload.invariant.disk);
+      stood = stands_somewhere g.D.Disk.tells (g.D.Disk.contents c.close-in-Err-count_messages.result) birth _ payloads
+          (c.close-in-Err-count_messages.ensures.stands birth payloads (c.next.ensures.same birth payloads c.loop-payload.invariant.journal));
+    }
 
 pub loop-payload-preserved : goal.loop-payload-preserved
 loop-payload-preserved g c =
-    let took = rw c.in-Ok-Some.field-0-is at c.in-Ok-Some.ensures.next in
-    let kept = c.in-Ok.ensures.ok in
-    HasLoaded-more g.D.Disk.contents c.args.journal c.loop-payload.journal c.next.new.self c.loop-payload.waiting c.in-Ok.count _ c.in-Ok-Some.payload kept.0
-    c.loop-payload.invariant took c.next.ensures.same c.next.ensures.disk kept.1 kept.2 kept.3 c.saturating_add-waiting.ensures
+    let payload = c.in-Ok-Some.payload in
+    let now = c.loop-payload.journal in
+    let next = c.next.new.self in
+    let some = c.in-Ok-Some-count_messages in
+    let kept = counted_so payload some.field-0 (Some some.count) some.ensures some.field-0-is in
+    HasLoaded-more g.D.Disk.tells g.D.Disk.contents c.args.journal now next c.loop-payload.waiting some.count _ payload kept.0 c.loop-payload.invariant
+    (handed_first (left now) (left next) c.in-Ok-Some.field-0 payload c.in-Ok-Some.ensures.next c.in-Ok-Some.field-0-is)
+    c.next.ensures.same c.next.ensures.disk kept.1 kept.2 kept.3 c.saturating_add-waiting.ensures
 
-pub returns-in-Err-count_messages-clause-err_stands : goal.returns-in-Err-count_messages-clause-err_stands
-returns-in-Err-count_messages-clause-err_stands g c =
+pub returns-in-Err-clause-err : goal.returns-in-Err-clause-err
+returns-in-Err-clause-err g c =
     let birth = birth_of c.args.journal in
     let payloads = left c.args.journal in
-    let area = area_of c.next.new.self in
-    some_weaker (g.D.Disk.contents c.close.result) (λ (areas : Areas). stands areas ≡ born birth area payloads) (λ areas. (x : Area) × (stands areas ≡ born birth x payloads))
-    (λ areas e. (area, e)) (c.close.ensures.stands birth payloads (c.next.ensures.same birth payloads c.loop-payload.invariant.journal))
-
-pub returns-in-Err-clause-err_stands : goal.returns-in-Err-clause-err_stands
-returns-in-Err-clause-err_stands g c =
-    let birth = birth_of c.args.journal in
-    let payloads = left c.args.journal in
-    let area = area_of c.next.new.self in
-    some_weaker (g.D.Disk.contents c.close-in-Err.result) (λ (areas : Areas). stands areas ≡ born birth area payloads) (λ areas. (x : Area) × (stands areas ≡ born birth x payloads))
-    (λ areas e. (area, e)) (c.close-in-Err.ensures.stands birth payloads (c.next.ensures.same birth payloads c.loop-payload.invariant.journal))
+    record {
+      cause = tt;
+      same = c.close-in-Err.ensures.disk ∙ (c.next.ensures.disk ∙ c.loop-payload.invariant.disk);
+      stood = stands_somewhere g.D.Disk.tells (g.D.Disk.contents c.close-in-Err.result) birth _ payloads
+          (c.close-in-Err.ensures.stands birth payloads (c.next.ensures.same birth payloads c.loop-payload.invariant.journal));
+    }

@@ -1,18 +1,18 @@
-use Rattle.std.proofs.Common.{List, ℕ, [], ◌∷◌, length, arith, sym, subst}
-use Rattle.std.proofs.lemmas.List.{map-append}
-use Rattle.std.proofs.lemmas.List.Elements.{All-push}
-use Rattle.std.proofs.lemmas.List.Sums.{sum_by-append}
-use Rattle.store_journal.specs.Journal.{IsJournal}
-use Rattle.boxes_main.specs.Accepts.{Accept, IsEntry, entry, entries}
+use Rattle.std.proofs.Common.{◌≡◌, ◌+◌, ◌≤◌, length, true, ap, arith}
+use Rattle.sendsms_http.specs.declared.reply.Reply.TheVariants.{Accepted}
+use Rattle.boxes_main.specs.Store.{queue_limit}
+use Rattle.boxes_main.proofs.Accepting.{one_more}
 use Rattle.boxes_main.proofs.store.Store.accept.Goals as goal
 
-pub returns-in-Ok-clause-ok : goal.returns-in-Ok-clause-ok
-returns-in-Ok-clause-ok g c = λ birth accepts is.
-    let more : Accept = record { time = c.args.time; parts = c.args.parts.now } in
-    let P : List (List ℕ) → Type 0 = λ p. IsJournal g.D.Disk.contents c.append_entry.new.self.journal birth p in
+pub returns : goal.returns
+returns g c =
+    let room : c.args.self.now.waiting + length c.args.accept.now.parts ≤ queue_limit = omega arith in
+    let sum : c.args.self.now.waiting + c.from-2.result ≡ c.args.self.now.waiting + length c.args.accept.now.parts = omega arith in
     record {
-      journal = subst P (sym (map-append entry accepts (more ∷ []))) (c.in-Ok.ensures.ok birth (entries accepts) is.journal);
-      nothing_left = c.append_entry.ensures.nothing_left;
-      each = All-push IsEntry accepts more is.each c.requires.fits.accept;
-      waiting = omega (arith, is.waiting, sum_by-append (λ (a : Accept). length a.parts) accepts (more ∷ []));
+      whole = c.requires.kept.2.journal.whole;
+      reason = (room, ap (λ n. Accepted (c.args.self.now.waiting + 1) n true) c.len-count.ensures);
+      gains = λ _. one_more g.D.Disk.tells g.D.Disk.contents c.args.self.now _ c.args.accept.now c.requires.fits.accept
+          c.in_ok-append_entry.ensures.ok c.append_entry.ensures.handed_out room sum;
+      broken = c.in_ok-append_entry.ensures.broken;
+      counted = c.in_ok-append_entry.ensures.counted;
     }

@@ -4,9 +4,10 @@ use Rattle.store_journal.specs.Journal.{IsJournal, reserved}
 use Rattle.boxes_main.proofs.store.Store.append_entry.Goals as goal
 
 pub returns-in-Ok-clause-ok : goal.returns-in-Ok-clause-ok
-returns-in-Ok-clause-ok g c = λ birth payloads is.
-    let text = accept_octets c.args.time c.args.parts.now in
+returns-in-Ok-clause-ok g c =
+    let text = accept_octets c.args.accept.now in
     let e : reserved c.reserve.new.self ≡ text =
     c.in_default-reserve.ensures.ok ∙ (c.as_slice.ensures ∙ (c.in_default.ensures.ok ∙ ap (λ x. x ++ text) c.new-entry.ensures)) in
-    let P : List ℕ → Type 0 = λ p. IsJournal g.D.Disk.contents c.append.new.self birth (payloads ++ p ∷ []) in
+    λ birth payloads is.
+    let P : List ℕ → Type 0 = λ p. IsJournal g.D.Disk.tells g.D.Disk.contents c.append.new.self birth (payloads ++ p ∷ []) in
     subst P e (c.in-Ok.ensures.holds_more birth payloads (c.reserve.ensures.same birth payloads is))

@@ -1,8 +1,10 @@
-use Rattle.std.proofs.Common.{length, refl}
-use Rattle.boxes_main.proofs.Handing.{leads_one}
+use Rattle.std.proofs.Common.{List, refl, subst}
+use Rattle.sms_record.specs.declared.sms.Sms.{Sms}
+use Rattle.boxes_main.specs.Deeds.{Does}
 use Rattle.boxes_main.proofs.store.StoreAcceptor.submit.Goals as goal
 
 pub returns-clause-deed : goal.returns-clause-deed
 returns-clause-deed g c =
-    leads_one g.D.Disk.contents g.D.Disk.faults c.args.self.now c.accept.new.self c.args.parts.items c.args.time (length c.args.parts.items) c.accept.result
-    refl c.requires.ready.2.journal.whole (rw c.deref.ensures.value at c.accept.ensures.ok) (rw c.deref.ensures.value at c.accept.ensures.reply) (rw c.deref.ensures.value at c.accept.ensures.refused) c.accept.ensures.broken c.accept.ensures.faults c.accept.ensures.told
+    let new = c.accept.new.self in
+    let P : List Sms → Type 0 = λ parts. Does g.D.Disk.tells g.D.Disk.contents g.D.Disk.faults c.args.self.now (record { parts = parts; time = c.args.time; outcome = c.accept.result }) new in
+    (new, subst P c.from_vec.ensures c.accept.ensures, refl)

@@ -1,4 +1,5 @@
-use Rattle.std.proofs.Common.{List, ℕ, [], ◌∷◌, ◌++◌, refl, arith, length, ap, ◌∙◌}
+use Rattle.std.proofs.Common.{◌≡◌, List, ℕ, [], ◌∷◌, ◌++◌, refl, arith, length, ap, subst}
+use Rattle.std.specs.Bool.{OnTrue}
 use Rattle.store_journal.specs.Disk.{after_write}
 use Rattle.store_journal.specs.Journal.{reserved}
 use Rattle.store_journal.proofs.Kept.{appended}
@@ -7,10 +8,10 @@ use Rattle.store_journal.proofs.journal.Journal.append.Goals as goal
 pub returns-clause-holds_more : goal.returns-clause-holds_more
 returns-clause-holds_more g c = λ birth payloads is.
     let old = c.args.self.now in
-    appended g.D.Disk.contents old _ birth payloads is c.requires.ended c.requires.reserved refl refl refl refl is.place
+    appended g.D.Disk.tells g.D.Disk.contents old _ birth payloads is c.requires.ended c.requires.reserved refl refl refl refl is.place
     (omega (arith, c.len.ensures, c.deref.ensures.len, ap length c.deref.ensures.value))
-    c.clear.ensures.items
-    (c.in_default.ensures.written ∙ ap (λ (l : List ℕ). after_write old.area old.end l (g.D.Disk.contents old.disk)) c.deref.ensures.value)
+    c.clear-2.ensures.items
+    (subst (λ (l : List ℕ). OnTrue g.D.Disk.tells (g.D.Disk.contents c.write_synced.new.disk ≡ after_write old.area old.end l (g.D.Disk.contents old.disk))) c.deref.ensures.value c.in_default.ensures.written)
 
 pub returns-clause-keeps : goal.returns-clause-keeps
 returns-clause-keeps g c =

@@ -1,0 +1,57 @@
+-- The steps of `door`: opening the store, and serving a session over it. No public clause cites these.
+use Rattle.std.specs.Prelude.{◌≡◌, ℕ, ◌<◌, Bool, List, [], Option, Some, option_map, Vec, vec_len, vec_capacity}
+use Rattle.std.specs.declared.alloc.Global.{Global}
+use Rattle.kn_base.specs.Course.{Course}
+use Rattle.store_journal.specs.Disk.{Areas}
+use Rattle.boxes_main.specs.Door.{Asks, IsConfigured, IsServed, ComesTo}
+use Rattle.boxes_main.specs.Failure.{status_of}
+use Rattle.boxes_main.specs.House.{Rooms, Stock, MakesOne, MakesFor, IsToldWord}
+use Rattle.boxes_main.specs.Store.{IsOpened}
+use Rattle.boxes_main.specs.Worker.{Worker}
+use Rattle.boxes_main.specs.declared.configuration.TheConstants.{STORE_FILE}
+use Rattle.boxes_main.specs.declared.failure.Failure.{Failure}
+use Rattle.boxes_main.specs.declared.failure.Failure.TheVariants.{Session}
+use Rattle.boxes_main.specs.declared.session.SessionFault.{SessionFault}
+use Rattle.boxes_main.specs.declared.store.Store.{Store}
+
+-- Room for one item in each of two vectors that have none.
+pub record HasRoom {A B : Type 0} (ends : Vec A Global) (workers : Vec B Global) : Type 0 where
+  pub no_ends : ends.items ≡ []
+  pub room_for_end : vec_len ends < vec_capacity ends
+  pub no_workers : workers.items ≡ []
+  pub room_for_worker : vec_len workers < vec_capacity workers
+
+module _
+    {V S E D C : Type 0} (course : V → Course)
+    (files : S → Option (List (List ℕ × List ℕ))) (calls shelf_faults : S → ℕ)
+    (tells : Bool) (contents : D → Areas) (faults : D → ℕ) (readings_of : C → Option (List ℕ)) where
+  -- The configuration was taken, and its store was opened on the one disk that was made.
+  pub record Opens (name : Option (List ℕ)) (old new : Rooms V S E) (before after : Stock) (store : Store D) : Type 0 where
+    pub others : new ≡ record old { shelf = new.shelf }
+    pub configured : IsConfigured files calls shelf_faults name old.shelf new.shelf
+    pub made : MakesOne before after
+    pub birth : ℕ
+    pub told : IsToldWord before.word birth
+    pub opened : IsOpened tells contents faults (before.disks STORE_FILE.now) 0 birth store
+
+  -- A session was served over a store.
+  pub record ServesOne
+      (old new : Rooms V S E) (before after : Stock) (store : Store D)
+      (status : ℕ) (failure : Option Failure) (disk : Option D) (workers : List (Worker C)) : Type 0 where
+    pub others : new ≡ record old { visitor = new.visitor }
+    pub stock : after ≡ before
+    pub right : status ≡ status_of failure
+    pub fault : Option SessionFault
+    pub failed : failure ≡ option_map Session fault
+    pub served : (areas : Areas) (word : Option ℕ) (birth : ℕ) → IsToldWord word birth → IsOpened tells contents faults areas 0 birth store
+        → IsServed tells contents faults readings_of areas word (course old.visitor) (course new.visitor) workers disk fault
+
+  -- The command came to its end, but for what it says of a failure.
+  pub record Ends
+      (name : Option (List ℕ)) (old new : Rooms V S E) (before after : Stock)
+      (status : ℕ) (failure : Option Failure) (disk : Option D) (workers : List (Worker C)) : Type 0 where
+    pub silent : new.errors ≡ old.errors
+    pub right : status ≡ status_of failure
+    pub asks : Asks files calls shelf_faults name old.shelf new.shelf failure
+    pub made : MakesFor disk before after
+    pub comes_to : ComesTo tells contents faults readings_of course (before.disks STORE_FILE.now) before.word old.visitor new.visitor workers disk failure

@@ -1,0 +1,105 @@
+//! One session over an open store: it is served, and the store is closed.
+
+ghost use Rattle.std.specs.Prelude.{◌≡◌, [], ◌∷◌, Some, IfOk, map, option_map};
+ghost use Rattle.boxes_main.specs.Door.{fault_by};
+ghost use Rattle.boxes_main.specs.DoorSteps.{HasRoom, ServesOne};
+ghost use Rattle.boxes_main.specs.Store.{IsOpen};
+ghost use Rattle.boxes_main.specs.Worker.{worker_of};
+
+use crate::failure::status;
+use crate::{Ended, Failure, House, Role, SessionEnd, Store, WorkerEnd};
+use kn_base::{Items, Memory};
+use sendsms_http::{HttpEnd, serve_http};
+use std::alloc::Global;
+
+/// What went wrong in a session.
+#[derive(Clone, Copy)]
+pub enum SessionFault {
+    /// A disk call failed in the commit.
+    Disk,
+    /// Standard input or output failed, or was quiet.
+    Connection,
+    /// There was no memory for hearing or saying, outside a request that was answered so.
+    Memory,
+}
+
+/// What goes wrong first, in a store that broke or not and in the session over it.
+fn fault_of(broken: bool, end: HttpEnd) -> Option<SessionFault>
+    ensures { result ≡ fault_by broken end }
+{
+    if broken {
+        return Some(SessionFault::Disk);
+    }
+    match end {
+        HttpEnd::End => None,
+        HttpEnd::Fault | HttpEnd::Quiet => Some(SessionFault::Connection),
+        HttpEnd::Memory => Some(SessionFault::Memory),
+    }
+}
+
+/// The same as what went wrong in the command.
+fn failure_of(broken: bool, end: HttpEnd) -> Option<Failure>
+    ensures { result ≡ option_map Failure.Session (fault_by broken end) }
+{
+    fault_of(broken, end).map(Failure::Session)
+}
+
+/// Room for what a session leaves, taken before anything is done.
+#[derive(Drop)]
+pub(crate) struct Room<H: House> {
+    ends: Vec<SessionEnd>,
+    workers: Vec<WorkerEnd<H>>,
+}
+
+/// Takes the room for one session.
+pub(crate) fn make_room<H: House>(alloc: Global) -> Result<Room<H>, Memory>
+    ensures { IfOk result (λ room. HasRoom room.ends room.workers) }
+{
+    Ok(Room {
+        ends: Vec::with_capacity(alloc, 1)?,
+        workers: Vec::with_capacity(alloc, 1)?,
+    })
+}
+
+/// What one worker left: the end of its one session over HTTP, and its clock.
+fn leave<H: House>(room: Room<H>, clock: H::C, end: HttpEnd) -> Items<WorkerEnd<H>>
+    requires { HasRoom room.ends room.workers }
+    ensures { map worker_of result ≡ record { role = Role.Http; clock = Some clock; ends = SessionEnd.Http end ∷ [] } ∷ [] }
+{
+    let Room {
+        mut ends,
+        mut workers,
+    } = room;
+    ends.push_reserved(SessionEnd::Http(end));
+    workers.push_reserved(WorkerEnd {
+        role: Role::Http,
+        clock: Some(clock),
+        ends: Items::from_vec(ends),
+    });
+    Items::from_vec(workers)
+}
+
+/// Serves one session over a store, and closes it.
+pub(crate) fn serve<H: House>(
+    alloc: Global,
+    house: &mut H,
+    store: Store<H::D>,
+    room: Room<H>,
+) -> Ended<H>
+    requires open { IsOpen H.D.tells H.D.contents store }
+    requires room { HasRoom room.ends room.workers }
+    ensures { ServesOne H.V.course H.S.files H.S.calls H.S.faults H.D.tells H.D.contents H.D.faults H.C.readings
+        (H.rooms house.old) (H.rooms house.new) (H.stock house.old) (H.stock house.new) store
+        result.status result.failure result.disk (map worker_of result.workers) }
+{
+    let mut store = store;
+    let mut clock = house.clock();
+    let end = serve_http(alloc, &mut store, house.visitor(), &mut clock);
+    let failure = failure_of(store.is_broken(), end);
+    Ended {
+        status: status(failure),
+        failure,
+        disk: Some(store.close()),
+        workers: leave(room, clock, end),
+    }
+}

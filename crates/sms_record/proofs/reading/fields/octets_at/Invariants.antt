@@ -1,6 +1,0 @@
-use Rattle.std.proofs.Common.{◌≡◌, ℕ, ◌<◌, true, get_or}
-use Rattle.sms_record.specs.Alphabet.{is_in}
-use Rattle.sms_record.proofs.reading.fields.octets_at.Given as goal
-
-abbrev pub invariant-loop-index : goal.invariant-loop-index
-invariant-loop-index l = (k : ℕ) → k < l.index → is_in l.alphabet (get_or l.octets k 0) ≡ true

@@ -1,0 +1,64 @@
+-- What the steps of an opening find.
+use Rattle.std.specs.Prelude.{◌≡◌, ◌<◌, ◌≤◌, ◌^◌, ℕ, Bool, List, [], ◌∷◌, ◌++◌, length, drop, Ok, All}
+use Rattle.std.specs.Bool.{OnTrue}
+use Rattle.exact_octets.specs.declared.read_fault.ReadFault.{ReadFault}
+use Rattle.exact_octets.specs.declared.read_fault.ReadFault.TheVariants as faults
+use Rattle.exact_octets.specs.Reading.{many}
+use Rattle.store_journal.specs.Disk.{Areas, octets_of, after_write}
+use Rattle.store_journal.specs.Area.{foreign, stands, header, header_at, reading, fault_place, gate_place, unit, units, unit_at, area_text, payloads_in, behind_units, IsPayload, IsStored}
+use Rattle.store_journal.specs.Journal.{OpensAs}
+use Rattle.store_journal.specs.declared.area.Area.{Area}
+use Rattle.store_journal.specs.declared.area.Area.TheVariants.{A, B, Pick}
+use Rattle.store_journal.specs.declared.fault.OpenFault.{OpenFault}
+use Rattle.store_journal.specs.declared.fault.OpenFault.TheVariants.{Foreign, Disk, Memory}
+use Rattle.store_journal.specs.declared.found.Found.{Found}
+
+-- octets begin with no unit
+abbrev pub IsNoUnit : List ℕ → Type 0
+IsNoUnit octets = many unit_at octets ≡ ([], octets)
+
+-- octets begin with the unit of this payload, and what stands behind it is read on
+pub record IsFirstUnit (octets payload behind : List ℕ) : Type 0 where
+  pub apart : octets ≡ unit payload ++ behind
+  pub payloads : payloads_in octets ≡ payload ∷ payloads_in behind
+  pub rest : behind_units octets ≡ behind_units behind
+
+-- octets begin with the header of a birth, and behind it with units: they are these and what stands behind them
+pub record IsRead (octets : List ℕ) (birth : ℕ) (rest : List ℕ) : Type 0 where
+  pub read : header_at octets ≡ Ok (birth, rest)
+  pub small : birth < 2 ^ 64
+  pub sizes : All IsPayload (payloads_in rest)
+  pub behind_header : drop 16 octets ≡ rest
+  pub spelled : octets ≡ header birth ++ (units (payloads_in rest) ++ behind_units rest)
+
+-- what a fault in reading the header of an area is told as
+abbrev pub IsMisfitOf : Area → List ℕ → ReadFault → OpenFault → Type 0
+IsMisfitOf area octets faults.Memory fault = fault ≡ Memory
+IsMisfitOf area octets faults.Short fault = fault ≡ Foreign area (fault_place octets faults.Short)
+IsMisfitOf area octets (faults.Malformed left) fault = fault ≡ Foreign area (fault_place octets (faults.Malformed left))
+
+-- the octets of an area are no text: its first fault stands there
+abbrev pub IsMisfit : Area → List ℕ → OpenFault → Type 0
+IsMisfit area octets (Foreign other at) = reading area octets ≡ foreign other at
+IsMisfit area octets Disk = ⊥
+IsMisfit area octets Memory = Unit {0}
+
+-- what was found at an opening, with the areas before it and now
+pub record IsFound (tells : Bool) (before now : Areas) (birth : ℕ) (found : Found) (payloads : List (List ℕ)) : Type 0 where
+  pub small : found.birth < 2 ^ 64
+  pub sizes : All IsPayload payloads
+  pub left : payloads_in (drop found.place found.octets.items) ≡ payloads
+  pub place : found.place ≤ length found.octets.items
+  pub end : found.end ≡ gate_place payloads
+  pub stored : OnTrue tells (IsStored now found.area found.birth payloads)
+  pub stood : OnTrue tells (OpensAs (stands before) birth found.birth found.area payloads)
+
+-- an area holds more than a birth would write, where contents are told, or the disk failed
+abbrev pub IsMore : Bool → Areas → Area → OpenFault → Type 0
+IsMore tells areas area (Foreign more at) = (more ≡ area) × (at ≡ 17) × OnTrue tells (17 < length (octets_of areas area))
+IsMore tells areas area Disk = Unit {0}
+IsMore tells areas area Memory = ⊥
+
+-- the areas after a birth: both have a header and a closed gate, and Pick picks the first
+abbrev pub after_birth : ℕ → Areas → Areas
+after_birth birth areas = after_write Pick 0 (1 ∷ []) (after_write B 0 (area_text birth [] 0) (after_write A 0 (area_text birth [] 0) areas))
