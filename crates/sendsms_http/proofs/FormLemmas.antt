@@ -5,7 +5,7 @@ use Rattle.std.specs.List.{list_all}
 use Rattle.std.proofs.lemmas.Bool.Decides.{nat_tests}
 use Rattle.std.proofs.lemmas.List.Elements.{All-weaker}
 use Rattle.std.proofs.lemmas.List.Sums.{AllPass-from_list_all}
-use Rattle.std.proofs.lemmas.Bool.{leb-true}
+use Rattle.std.proofs.lemmas.Bool.{and_parts, leb-true}
 use Rattle.sms_record.specs.Record.{IsSms, IsDigit}
 use Rattle.sendsms_http.specs.declared.answer.Answer.{Answer}
 use Rattle.sendsms_http.specs.declared.form.Form.{Form}
@@ -20,25 +20,15 @@ digit_says octet h = grind (arith, nat_tests)
 text_octet_says : (octet : ℕ) → is_text_octet octet ≡ true → octet < 128
 text_octet_says octet h = grind (arith, nat_tests)
 
-three : (a b c : Bool) → (a && b && c) ≡ true → (a ≡ true) × (b ≡ true) × (c ≡ true)
-three true true true h = (refl, refl, refl)
-three true true false h = cc
-three true false c h = cc
-three false b c h = cc
-
-two : (a b : Bool) → (a && b) ≡ true → (a ≡ true) × (b ≡ true)
-two true true h = (refl, refl)
-two true false h = cc
-two false b h = cc
-
 number_says : (octets : List ℕ) → is_number octets ≡ true → (1 ≤ length octets) × (length octets ≤ 15) × All IsDigit octets
 number_says octets h =
-    let parts = three _ _ _ h in
-    (leb-true _ _ parts.0, leb-true _ _ parts.1, All-weaker _ _ digit_says octets (AllPass-from_list_all is_ascii_digit octets parts.2))
+    let digits = and_parts _ _ h in
+    let bounds = and_parts _ _ digits.0 in
+    (leb-true _ _ bounds.0, leb-true _ _ bounds.1, All-weaker _ _ digit_says octets (AllPass-from_list_all is_ascii_digit octets digits.1))
 
 text_says : (octets : List ℕ) → is_text octets ≡ true → (length octets ≤ 160) × All (λ octet. octet < 128) octets
 text_says octets h =
-    let parts = two _ _ h in
+    let parts = and_parts _ _ h in
     (leb-true _ _ parts.0, All-weaker _ _ text_octet_says octets (AllPass-from_list_all is_text_octet octets parts.1))
 
 -- what is taken passed both tests
@@ -52,7 +42,7 @@ taken false passed a b form other h = cc
 held : (given : List Pair) (form : Form) → read_form given ≡ Ok form → (n : ℕ) → n < 5 → is_held given (get_or variables n Username) ≡ true
 held given form h n below =
     let passed = (taken (is_authorized given) (is_form given) _ _ (form_of given) form h).0 in
-    AllPass-from_list_all (is_held given) variables (three (length given == length variables) (list_all (is_once given) variables) _ passed).2 n Username below
+    AllPass-from_list_all (is_held given) variables (and_parts _ _ passed).1 n Username below
 
 -- its numbers are addresses, and its text is septets
 pub IsSms-message : (given : List Pair) (form : Form) (now : ℕ) → read_form given ≡ Ok form → now < 2 ^ 37 → IsSms (message form now)

@@ -1,7 +1,7 @@
 -- A target in the origin form is read whole, and no other target that begins with `/` and has no fragment is read.
 use Rattle.std.proofs.Common.{◌≡◌, ◌≢◌, ℕ, ◌+◌, ◌-◌, ◌<◌, ◌==◌, ◌&&◌, Bool, true, false, not, List, [], ◌∷◌, length, get_or, take, drop, Option, Some, None, is_some, unwrap_or, IfSome, refl, sym, ap, ◌∙◌, subst, arith, inl, inr, get_or-take, get_or-drop, length-take-le, length-drop, lt-ltb, take_all, eq-eqb, ne_eqb, eqb-true, le-leb, leb-true, bytes_eq, if◌then◌else◌}
 use Rattle.std.specs.List.{list_all}
-use Rattle.std.proofs.lemmas.Bool.{cases_Bool, cases_order, both_ways}
+use Rattle.std.proofs.lemmas.Bool.{and_parts, cases_Bool, cases_order, both_ways}
 use Rattle.std.proofs.lemmas.Bool.Decides.{nat_tests}
 use Rattle.std.proofs.lemmas.List.Sums.{AllPass-from_list_all, list_all-from_AllPass}
 use Rattle.std.specs.Cmp.Derive.{both_true}
@@ -51,27 +51,21 @@ query_from_passes : (o : Option (List ℕ)) → list_all is_query_byte (unwrap_o
 query_from_passes None h = tt
 query_from_passes (Some q) h = AllPass-from_list_all is_query_byte q h
 
--- five tests that all pass, one by one
-five : (a b c d e : Bool) → (a && b && c && d && e) ≡ true → (a ≡ true) × (b ≡ true) × (c ≡ true) × (d ≡ true) × (e ≡ true)
-five true true true true true h = (refl, refl, refl, refl, refl)
-five true true true true false h = cc
-five true true true false e h = cc
-five true true false d e h = cc
-five true false c d e h = cc
-five false b c d e h = cc
-
 -- what the tests of an origin form say
 pub origin_form_says : (t : List ℕ) → is_origin_form t ≡ true → (get_or t 0 0 ≡ 47) × IsPathAndQuery t
 origin_form_says t h =
-    let parts = five _ _ _ _ _ h in
-    let slash = eqb-true _ _ parts.0 in (
+    let short = and_parts _ _ h in
+    let utf8 = and_parts _ _ short.0 in
+    let query = and_parts _ _ utf8.0 in
+    let path = and_parts _ _ query.0 in
+    let slash = eqb-true _ _ path.0 in (
       slash,
       record {
         start = inr (inr (inl slash));
-        path = AllPass-from_list_all is_path_byte _ parts.1;
-        query = query_from_passes (query_of t) parts.2;
-        utf8 = IsUtf8-from_is_utf8 t parts.3;
-        short = leb-true _ _ parts.4;
+        path = AllPass-from_list_all is_path_byte _ path.1;
+        query = query_from_passes (query_of t) query.1;
+        utf8 = IsUtf8-from_is_utf8 t utf8.1;
+        short = leb-true _ _ short.1;
       },
     )
 
@@ -96,11 +90,6 @@ only_origin_form t (Some scheme) (Some authority) kept slash h = absurd (cut_fir
 abbrev pub may_be : List ℕ → Bool
 may_be t = (get_or t 0 0 == 47) && list_all no_hash t
 
-both : (a b : Bool) → (a && b) ≡ true → (a ≡ true) × (b ≡ true)
-both true true h = (refl, refl)
-both true false h = cc
-both false b h = cc
-
 -- another text is no origin form
 pub not_may_be : (t : List ℕ) → may_be t ≡ false → is_origin_form t ≡ false
 not_may_be t h =
@@ -114,7 +103,7 @@ not_may_be t h =
 -- where it is read as a URI, it is an origin form and is kept whole
 pub read_may_be : (t : List ℕ) (scheme authority : Option (List ℕ)) (kept : List ℕ) → may_be t ≡ true → IsUriText t scheme authority kept → (is_origin_form t ≡ true) × (kept ≡ t)
 read_may_be t scheme authority kept may h =
-    let parts = both _ _ may in
+    let parts = and_parts _ _ may in
     let slash = eqb-true _ _ parts.0 in
     let input = only_origin_form t scheme authority kept slash h in
     let same = whole t parts.1 in
@@ -141,7 +130,7 @@ slash_some (b ∷ t) h = ne_eqb _ 0 (omega arith)
 pub read_path : (u : Uri) (t : List ℕ) → may_be t ≡ true → Spells t u → uri_path u ≡ path_of t
 read_path u t may h =
     let read = read_may_be t _ _ _ may h in
-    let parts = both _ _ may in
+    let parts = and_parts _ _ may in
     let some : (length (uri_data u) == 0) ≡ false = rw read.1 (slash_some t (eqb-true _ _ parts.0)) in
     rw some (ap path_of read.1)
 

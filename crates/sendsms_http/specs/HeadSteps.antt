@@ -1,8 +1,15 @@
--- How the lines of a head that isn't whole yet are counted. No public clause cites this.
+-- What a field announces, and how the lines of a head that isn't whole yet are counted. No public clause cites these.
 use Rattle.std.specs.Prelude.{ℕ, ◌+◌, suc, zero, Bool, false, not, List, [], ◌∷◌, ◌==◌, if◌then◌else◌}
 use Rattle.httparse.specs.Ascii.{line_feed}
 use Rattle.httparse.specs.Pieces.{is_newline}
-use Rattle.sendsms_http.specs.Head.{line_limit}
+use Rattle.sendsms_http.specs.declared.head.fields.Sign.{Sign}
+use Rattle.sendsms_http.specs.declared.head.fields.Sign.TheVariants.{Close, Body}
+use Rattle.sendsms_http.specs.Head.{line_limit, NamedValue, is_close, is_of_body}
+
+-- the field announces it
+abbrev pub is_in : Sign → NamedValue → Bool
+is_in Close field = is_close field
+is_in Body field = is_of_body field
 
 -- the octets behind the empty lines at the front
 abbrev pub behind_blank : List ℕ → List ℕ

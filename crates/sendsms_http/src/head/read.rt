@@ -5,7 +5,7 @@ ghost use Rattle.httparse.specs.Spans.{IsWithin, IsHeaderWithin, header_bytes, s
 ghost use Rattle.sendsms_http.specs.Head as spec;
 
 use super::Head;
-use super::fields::{has_body, has_close};
+use super::fields::{Sign, is_announced};
 use super::lines::has_too_many_lines;
 use httparse::Status;
 use httparse::spans::{EMPTY_HEADER_SPAN, HeaderSpan, RequestSpans, parse_request};
@@ -84,7 +84,7 @@ fn head_of(
         get: request.method.of(octets) == b"GET".as_slice(),
         minor: request.version,
         target,
-        close: request.version == 0 || has_close(octets, fields),
-        body: has_body(octets, fields),
+        close: request.version == 0 || is_announced(octets, fields, Sign::Close),
+        body: is_announced(octets, fields, Sign::Body),
     })
 }
