@@ -1,4 +1,3 @@
-use Rattle.std.proofs.Common.{sym, subst}
 use Rattle.std.proofs.lemmas.Result.{err_from_is_err_and}
 use Rattle.concat_split.proofs.Joints.{count_fails, count_says}
 use Rattle.concat_split.proofs.joint.joint_at.Goals as goal

@@ -5,7 +5,7 @@ use Rattle.exact_octets.proofs.Loops.{filling_begins, filling_more, filling_fail
 use Rattle.sms_record.specs.Header.{element}
 use Rattle.sms_record.specs.HeaderReading.{element_of, element_at, elements_at}
 use Rattle.concat_split.specs.declared.joint.Joint.{Joint}
-use Rattle.concat_split.specs.Joint.{joint_of, first_joint}
+use Rattle.concat_split.specs.Joint.{first_joint}
 use Rattle.concat_split.proofs.Joints.{said, said_fails, first_joint-last}
 use Rattle.concat_split.proofs.joint.joint_of_elements_at.Goals as goal
 
