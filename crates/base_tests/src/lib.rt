@@ -1,5 +1,5 @@
-//! Tests of the lowest crates, of what no clause says: values from outside, calls that succeed where there is memory,
-//! and that the forms on the machine say what went through. It has no code but tests.
+//! Tests of the low crates, which have no `#[test]` of their own: the forms of the outside in memory and on the
+//! machine, and the journal over disks of both kinds. It has no code but tests.
 #![tactic(auto)]
 
 #[cfg(test)]
