@@ -5,7 +5,7 @@ ghost use Rattle.std.specs.Prelude.{◌≡◌};
 use kn_base::Memory;
 
 /// Why there is no value in some octets.
-#[derive(Clone, Copy, Debug, PartialEq, Eq)]
+#[derive(Clone, Copy, Debug)]
 pub enum RecordFault {
     /// The octets are a proper front of a value's.
     Short,

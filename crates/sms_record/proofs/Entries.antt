@@ -1,5 +1,5 @@
 -- Entries are read exactly.
-use Rattle.std.proofs.Common.{◌≡◌, ℕ, ◌≤◌, List, [], ◌∷◌, ◌++◌, length, refl, ap, ◌∙◌, arith}
+use Rattle.std.proofs.Common.{◌≡◌, ℕ, ◌≤◌, List, [], ◌∷◌, ◌++◌, length, refl, ap, ◌∙◌, arith, ◌-◌, ◌^◌}
 use Rattle.std.specs.List.{flat_map, AllByRecursion}
 use Rattle.std.specs.Int.{w16, w64, to_be_bytes}
 use Rattle.std.proofs.lemmas.List.Concat.{length-flat_map}
@@ -9,6 +9,7 @@ use Rattle.exact_octets.proofs.Tests.{Between}
 use Rattle.exact_octets.proofs.Digits.{from_to_reads, up_to_reads}
 use Rattle.exact_octets.proofs.Fields.{between_reads}
 use Rattle.sms_record.specs.declared.entry.accept.Accept.{Accept}
+use Rattle.sms_record.specs.declared.limits.TheConstants.{MOST_MESSAGES}
 use Rattle.sms_record.specs.declared.sms.Sms.{Sms}
 use Rattle.sms_record.specs.Record.{IsSms, sms_octets}
 use Rattle.sms_record.specs.Entry.{IsAccept, accept_octets, accept_size}
@@ -18,7 +19,7 @@ use Rattle.sms_record.proofs.Messages.{sms_reads}
 -- ---- kind 01, Accept
 
 abbrev Fields : ℕ × (ℕ × (ℕ × List Sms)) → Type 0
-Fields p = Between 1 1 p.0 × ((p.1.0 ≤ 18446744073709551615) × (Between 1 5000 p.1.1.0 × ((length p.1.1.1 ≡ p.1.1.0) × AllByRecursion IsSms p.1.1.1)))
+Fields p = Between 1 1 p.0 × ((p.1.0 ≤ 2 ^ 64 - 1) × (Between 1 MOST_MESSAGES p.1.1.0 × ((length p.1.1.1 ≡ p.1.1.0) × AllByRecursion IsSms p.1.1.1)))
 
 abbrev fields_octets : ℕ × (ℕ × (ℕ × List Sms)) → List ℕ
 fields_octets p = (p.0 ∷ []) ++ (to_be_bytes w64 p.1.0 ++ (to_be_bytes w16 p.1.1.0 ++ flat_map sms_octets p.1.1.1))
@@ -41,7 +42,7 @@ pub accept_reads : IsReader IsAccept accept_octets accept_at
 unfolding accept_at
 accept_reads =
     made_reads accept_of
-    (between_reads 1 1 (omega arith) & up_to_reads 8 18446744073709551615 (omega arith) & then_reads (from_to_reads 2 1 5000 (omega arith) (omega arith)) (λ count good. repeated_reads sms_reads count))
+    (between_reads 1 1 (omega arith) & up_to_reads 8 (2 ^ 64 - 1) (omega arith) & then_reads (from_to_reads 2 1 MOST_MESSAGES (omega arith) (omega arith)) (λ count good. repeated_reads sms_reads count))
     (record { there = accept_there; back = accept_back })
 
 -- an entry has as many octets as its size says

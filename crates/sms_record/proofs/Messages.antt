@@ -1,23 +1,20 @@
 -- A message is read exactly: its parts, and the whole.
-use Rattle.std.proofs.Common.{◌≡◌, ℕ, zero, suc, ◌^◌, ◌<◌, ◌≤◌, Bool, true, false, List, [], ◌∷◌, ◌++◌, length, All, Option, Some, None, refl, arith}
+use Rattle.std.proofs.Common.{◌≡◌, ℕ, zero, suc, ◌^◌, ◌<◌, ◌≤◌, List, [], ◌∷◌, ◌++◌, length, Option, Some, None, refl, arith}
 use Rattle.std.specs.Prelude.{⊤, IfSome}
 use Rattle.std.specs.Int.{w32, w64, to_be_bytes}
 use Rattle.kn_base.specs.declared.charset.Charset.{Charset}
 use Rattle.kn_base.specs.declared.charset.Charset.TheVariants.{Utf8, Latin1, Utf16Be}
-use Rattle.exact_octets.specs.declared.alphabet.Alphabet.TheVariants.{Any, Septet, Digit}
-use Rattle.exact_octets.specs.Alphabet.{within, IsDigit}
+use Rattle.exact_octets.specs.declared.alphabet.Alphabet.TheVariants.{Any, Septet}
 use Rattle.exact_octets.specs.Numbers.{from_to, even_up_to}
-use Rattle.exact_octets.specs.Reading.{made, value_of}
+use Rattle.exact_octets.specs.Reading.{value_of}
 use Rattle.exact_octets.specs.Spelling.{short, long}
 use Rattle.exact_octets.proofs.Readers.{IsReader, then_reads, ◌&◌, made_reads, reworded_reads}
-use Rattle.exact_octets.proofs.Tests.{Between, within_means}
 use Rattle.exact_octets.proofs.Digits.{up_to_reads}
-use Rattle.exact_octets.proofs.Fields.{between_reads, short_reads, counted_reads, octets_reads, counted_octets_reads}
-use Rattle.exact_octets.proofs.Choices.{code_reads, kind_reads}
-use Rattle.sms_record.specs.declared.address.Address.{Address}
-use Rattle.sms_record.specs.declared.address.Address.TheVariants.{Number, Text}
+use Rattle.exact_octets.proofs.Fields.{between_reads, counted_reads, octets_reads, counted_octets_reads}
+use Rattle.exact_octets.proofs.Choices.{code_reads}
 use Rattle.sms_record.specs.declared.coding.Coding.{Coding}
 use Rattle.sms_record.specs.declared.coding.Coding.TheVariants.{Seven, Eight, Ucs2}
+use Rattle.sms_record.specs.declared.limits.TheConstants.{MOST_PARTS, LAST_CLASS, MOST_MASK, MOST_MINUTES, LAST_TIME, MOST_BODY, MOST_NAME, MOST_URL}
 use Rattle.sms_record.specs.declared.sms.Sms.{Sms}
 use Rattle.sms_record.specs.declared.record.marks.Marks.{Marks}
 use Rattle.sms_record.specs.declared.record.times.Times.{Times}
@@ -25,56 +22,10 @@ use Rattle.sms_record.specs.declared.record.heading.Heading.{Heading}
 use Rattle.sms_record.specs.declared.record.names.Names.{Names}
 use Rattle.sms_record.specs.declared.record.contents.Contents.{Contents}
 use Rattle.sms_record.specs.Codes.{codings, coding_code, classes, class_code, charsets, charset_code}
-use Rattle.sms_record.specs.Record.{IsAddress, address_kind, address_text, address, IsOfCoding, IsSms, sms_octets}
-use Rattle.sms_record.specs.RecordReading.{address_text_at, address_of, address_at, coding_at, charset_at, class_at, marks_of, marks_at, times_of, times_at, heading_of, heading_at, body_at, names_of, names_at, contents_of, contents_at, sms_of, sms_at, heading_in, contents_in}
-use Rattle.sms_record.proofs.Headers.{IsUdh, udh_reads}
-
--- ---- addresses
-
--- an address of a kind
-abbrev IsOfKind : ℕ → Address → Type 0
-IsOfKind kind a = IsAddress a × (address_kind a ≡ kind)
-
-abbrev text_octets : Address → List ℕ
-text_octets a = short (address_text a)
-
--- a number of 1 to 15 digits
-number_reads : (kind : ℕ) (plus : Bool) → address_kind (Number plus []) ≡ kind → IsReader (λ digits. Between 1 15 (length digits) × All IsDigit digits) short (address_text_at kind) → IsReader (IsOfKind kind) text_octets (made (address_of kind) (address_text_at kind))
-number_reads zero true is reads = absurd cc
-number_reads (suc kind) false is reads = absurd cc
-number_reads (suc (suc kind)) true is reads = absurd (omega arith)
-number_reads zero false is reads = made_reads (address_of 0) reads (record { there = λ digits good. (((good.0.0, good.0.1, good.1), refl), refl); back = back })
-  where
-    back : (a : Address) → IsOfKind 0 a → (digits : List ℕ) × (Between 1 15 (length digits) × All IsDigit digits) × (address_of 0 digits ≡ a) × (short digits ≡ text_octets a)
-    back (Number false digits) good = (digits, ((good.0.0, good.0.1), good.0.2), refl, refl)
-    back (Number true digits) good = absurd (omega (arith, good.1))
-    back (Text text) good = absurd (omega (arith, good.1))
-number_reads (suc zero) true is reads = made_reads (address_of 1) reads (record { there = λ digits good. (((good.0.0, good.0.1, good.1), refl), refl); back = back })
-  where
-    back : (a : Address) → IsOfKind 1 a → (digits : List ℕ) × (Between 1 15 (length digits) × All IsDigit digits) × (address_of 1 digits ≡ a) × (short digits ≡ text_octets a)
-    back (Number false digits) good = absurd (omega (arith, good.1))
-    back (Number true digits) good = (digits, ((good.0.0, good.0.1), good.0.2), refl, refl)
-    back (Text text) good = absurd (omega (arith, good.1))
-
-text_back : (a : Address) → IsOfKind 2 a → (text : List ℕ) × (length text ≤ 64) × (address_of 2 text ≡ a) × (short text ≡ text_octets a)
-text_back (Number false digits) good = absurd (omega (arith, good.1))
-text_back (Number true digits) good = absurd (omega (arith, good.1))
-text_back (Text text) good = (text, good.0, refl, refl)
-
-kind_text_reads : (kind : ℕ) → within 0 2 kind ≡ true → IsReader (IsOfKind kind) text_octets (made (address_of kind) (address_text_at kind))
-kind_text_reads zero e = number_reads 0 false refl (short_reads 1 15 Digit (omega arith))
-kind_text_reads (suc zero) e = number_reads 1 true refl (short_reads 1 15 Digit (omega arith))
-kind_text_reads (suc (suc zero)) e = made_reads (address_of 2) (octets_reads 64) (record { there = λ text good. ((good, refl), refl); back = text_back })
-kind_text_reads (suc (suc (suc kind))) e = absurd (omega (arith, (within_means 0 2 (suc (suc (suc kind))) e).1))
-
-kind_within : (a : Address) → IsAddress a → within 0 2 (address_kind a) ≡ true
-kind_within (Number false digits) good = refl
-kind_within (Number true digits) good = refl
-kind_within (Text text) good = refl
-
-pub address_reads : IsReader IsAddress address address_at
-unfolding address_at
-address_reads = kind_reads (within 0 2) address_kind kind_text_reads kind_within (Text [], omega arith)
+use Rattle.sms_record.specs.Record.{IsAddress, address, IsOfCoding, IsSms, sms_octets}
+use Rattle.sms_record.specs.RecordReading.{coding_at, charset_at, class_at, marks_of, marks_at, times_of, times_at, heading_of, heading_at, body_at, names_of, names_at, contents_of, contents_at, sms_of, sms_at, heading_in, contents_in}
+use Rattle.sms_record.proofs.Addresses.{address_reads}
+use Rattle.sms_record.proofs.Udh.{IsUdh, udh_reads}
 
 -- ---- marks
 
@@ -97,7 +48,7 @@ unfolding charset_at
 charset_reads = code_reads charset_code charsets (λ charset. ⊤) (tt, (tt, (tt, tt))) (λ charset good. charset_again charset) (Utf8, tt)
 
 abbrev IsClass : Option ℕ → Type 0
-IsClass o = IfSome o (λ class. class ≤ 3)
+IsClass o = IfSome o (λ class. class ≤ LAST_CLASS)
 
 class_again : (class : Option ℕ) → IsClass class → value_of class_code classes (class_code class) ≡ Some class
 class_again None good = refl
@@ -112,7 +63,7 @@ unfolding class_at
 class_reads = code_reads class_code classes IsClass (tt, (omega arith, (omega arith, (omega arith, (omega arith, tt))))) class_again (None, tt)
 
 abbrev IsMarks : Marks → Type 0
-IsMarks m = IsClass m.class × (m.total ≤ 100) × (1 ≤ m.part) × (m.part ≤ m.total) × (m.mask ≤ 31)
+IsMarks m = IsClass m.class × (m.total ≤ MOST_PARTS) × (1 ≤ m.part) × (m.part ≤ m.total) × (m.mask ≤ MOST_MASK)
 
 abbrev marks_octets : Marks → List ℕ
 marks_octets m = coding_code m.coding ∷ class_code m.class ∷ charset_code m.charset ∷ m.total ∷ m.part ∷ m.mask ∷ []
@@ -121,7 +72,7 @@ marks_reads : IsReader IsMarks marks_octets marks_at
 unfolding marks_at
 marks_reads =
     made_reads marks_of
-    (coding_reads & class_reads & charset_reads & then_reads (between_reads 1 100 (omega arith)) (λ total good. between_reads 1 total good.0 & between_reads 0 31 (omega arith)))
+    (coding_reads & class_reads & charset_reads & then_reads (between_reads 1 MOST_PARTS (omega arith)) (λ total good. between_reads 1 total good.0 & between_reads 0 MOST_MASK (omega arith)))
     (record {
       there = λ p good. ((good.1.0, good.1.1.1.0.1, good.1.1.1.1.0.0, good.1.1.1.1.0.1, good.1.1.1.1.1.1), refl);
       back = λ m good. ((m.coding, (m.class, (m.charset, (m.total, (m.part, m.mask))))), (tt, (good.0, (tt, ((omega (arith, good.2, good.3), good.1), ((good.2, good.3), (omega arith, good.4)))))), refl, refl);
@@ -130,7 +81,7 @@ marks_reads =
 -- ---- times
 
 abbrev IsTimes : Times → Type 0
-IsTimes t = (t.validity ≤ 43200) × (t.deferred ≤ 43200) × (t.time < 2 ^ 37)
+IsTimes t = (t.validity ≤ MOST_MINUTES) × (t.deferred ≤ MOST_MINUTES) × (t.time < 2 ^ 37)
 
 abbrev times_octets : Times → List ℕ
 times_octets t = to_be_bytes w32 t.validity ++ (to_be_bytes w32 t.deferred ++ to_be_bytes w64 t.time)
@@ -139,7 +90,7 @@ times_reads : IsReader IsTimes times_octets times_at
 unfolding times_at
 times_reads =
     made_reads times_of
-    (up_to_reads 4 43200 (omega arith) & up_to_reads 4 43200 (omega arith) & up_to_reads 8 137438953471 (omega arith))
+    (up_to_reads 4 MOST_MINUTES (omega arith) & up_to_reads 4 MOST_MINUTES (omega arith) & up_to_reads 8 LAST_TIME (omega arith))
     (record {
       there = λ p good. ((good.0, good.1.0, omega (arith, good.1.1)), refl);
       back = λ t good. ((t.validity, (t.deferred, t.time)), (good.0, (good.1, omega (arith, good.2))), refl, refl);
@@ -165,17 +116,17 @@ heading_reads =
 -- ---- the contents
 
 abbrev IsBody : Coding → List ℕ → Type 0
-IsBody coding body = (length body ≤ 2048) × IsOfCoding coding body
+IsBody coding body = (length body ≤ MOST_BODY) × IsOfCoding coding body
 
 body_reads : (coding : Coding) → IsReader (IsBody coding) long (body_at coding)
 body_reads Seven =
-    reworded_reads (counted_reads 2 (from_to 0 2048) Septet (record { some = omega arith; short = omega arith; even = λ e. cc })) (λ xs good. (good.0.1, good.1)) (λ xs good. ((omega arith, good.0, λ e. cc), good.1))
-body_reads Eight = reworded_reads (counted_octets_reads 2 2048 (omega arith)) (λ xs good. (good, tt)) (λ xs good. good.0)
+    reworded_reads (counted_reads 2 (from_to 0 MOST_BODY) Septet (record { some = omega arith; short = omega arith; even = λ e. cc })) (λ xs good. (good.0.1, good.1)) (λ xs good. ((omega arith, good.0, λ e. cc), good.1))
+body_reads Eight = reworded_reads (counted_octets_reads 2 MOST_BODY (omega arith)) (λ xs good. (good, tt)) (λ xs good. good.0)
 body_reads Ucs2 =
-    reworded_reads (counted_reads 2 (even_up_to 2048) Any (record { some = omega arith; short = omega arith; even = λ e. refl })) (λ xs good. (good.0.1, good.0.2 refl)) (λ xs good. ((omega arith, good.0, λ e. good.1), λ k d lt. tt))
+    reworded_reads (counted_reads 2 (even_up_to MOST_BODY) Any (record { some = omega arith; short = omega arith; even = λ e. refl })) (λ xs good. (good.0.1, good.0.2 refl)) (λ xs good. ((omega arith, good.0, λ e. good.1), λ k d lt. tt))
 
 abbrev AreNames : Names → Type 0
-AreNames n = (length n.smsc ≤ 64) × (length n.url ≤ 2048) × (length n.account ≤ 64) × (length n.service ≤ 64)
+AreNames n = (length n.smsc ≤ MOST_NAME) × (length n.url ≤ MOST_URL) × (length n.account ≤ MOST_NAME) × (length n.service ≤ MOST_NAME)
 
 abbrev names_octets : Names → List ℕ
 names_octets n = short n.smsc ++ (long n.url ++ (short n.account ++ short n.service))
@@ -183,7 +134,7 @@ names_octets n = short n.smsc ++ (long n.url ++ (short n.account ++ short n.serv
 names_reads : IsReader AreNames names_octets names_at
 unfolding names_at
 names_reads =
-    made_reads names_of (octets_reads 64 & counted_octets_reads 2 2048 (omega arith) & octets_reads 64 & octets_reads 64)
+    made_reads names_of (octets_reads MOST_NAME & counted_octets_reads 2 MOST_URL (omega arith) & octets_reads MOST_NAME & octets_reads MOST_NAME)
     (record {
       there = λ p good. ((good.0, good.1.0, good.1.1.0, good.1.1.1), refl);
       back = λ n good. ((n.smsc, (n.url, (n.account, n.service))), (good.0, (good.1, (good.2, good.3))), refl, refl);

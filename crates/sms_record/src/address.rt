@@ -11,6 +11,13 @@ use exact_octets::{Alphabet, ReadFault, octet_at, put_short, short_at};
 use kn_base::{Memory, Octets};
 use std::alloc::Global;
 
+/// The kind of a number.
+const PLAIN: u8 = 0;
+/// The kind of a number behind a `+`.
+const PLUS: u8 = 1;
+/// The kind of a text, which is the last one.
+const TEXT: u8 = 2;
+
 /// An address: a telephone number or a text.
 #[derive(Drop)]
 pub enum Address {
@@ -25,11 +32,11 @@ fn address_of(alloc: Global, kind: u8, text: &[u8]) -> Result<Address, Memory>
 {
     let text = Octets::from_slice(alloc, text)?;
     Ok(match kind {
-        0 => Address::Number {
+        PLAIN => Address::Number {
             plus: false,
             digits: text,
         },
-        1 => Address::Number {
+        PLUS => Address::Number {
             plus: true,
             digits: text,
         },
@@ -40,7 +47,7 @@ fn address_of(alloc: Global, kind: u8, text: &[u8]) -> Result<Address, Memory>
 fn address_text_at(octets: &[u8], kind: u8) -> Result<(&[u8], &[u8]), ReadFault>
     ensures { Gives (λ x. (x.0.now, x.1.now)) result (address_text_front kind octets.now) }
 {
-    if kind < 2 {
+    if kind < TEXT {
         short_at(octets, 1, MOST_DIGITS, Alphabet::Digit)
     } else {
         short_at(octets, 0, MOST_TEXT, Alphabet::Any)
@@ -52,7 +59,7 @@ fn address_text_at(octets: &[u8], kind: u8) -> Result<(&[u8], &[u8]), ReadFault>
 pub(crate) fn address_at(alloc: Global, octets: &[u8]) -> Result<(Address, &[u8]), ReadFault>
     ensures { Gives (λ x. (x.0, x.1.now)) result (address_front octets.now) }
 {
-    let (kind, rest) = octet_at(octets, 0, 2)?;
+    let (kind, rest) = octet_at(octets, PLAIN, TEXT)?;
     let (text, rest) = address_text_at(rest, kind)?;
     let address = address_of(alloc, kind, text)?;
     Ok((address, rest))
@@ -66,11 +73,11 @@ pub(crate) fn put_address(into: &mut Octets, from_or_to: &Address) -> Result<(),
 {
     match from_or_to {
         Address::Number { plus, digits } => {
-            into.push(if *plus { 1 } else { 0 })?;
+            into.push(if *plus { PLUS } else { PLAIN })?;
             put_short(into, digits.as_slice())
         }
         Address::Text(text) => {
-            into.push(2)?;
+            into.push(TEXT)?;
             put_short(into, text.as_slice())
         }
     }

@@ -4,7 +4,7 @@ use Rattle.exact_octets.specs.Reading.{behind}
 use Rattle.exact_octets.proofs.Loops.{filling_begins, filling_more, filling_fails, filling_ends}
 use Rattle.sms_record.specs.Header.{element}
 use Rattle.sms_record.specs.HeaderReading.{element_of, element_at, elements_at}
-use Rattle.sms_record.proofs.Headers.{behind_fails}
+use Rattle.sms_record.proofs.Udh.{behind_fails}
 use Rattle.sms_record.proofs.header.behind_elements.Goals as goal
 
 pub loop-left-init : goal.loop-left-init

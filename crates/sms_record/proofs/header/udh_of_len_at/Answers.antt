@@ -1,6 +1,6 @@
 use Rattle.std.proofs.Common.{arith, ◌-◌}
 use Rattle.std.proofs.lemmas.Result.{err_from_is_err_and}
-use Rattle.sms_record.proofs.Headers.{udh_whole, udh_none, udh_failed, others_failed}
+use Rattle.sms_record.proofs.Udh.{udh_whole, udh_none, udh_failed, others_failed}
 use Rattle.sms_record.proofs.header.udh_of_len_at.Goals as goal
 
 pub returns-then-len-eq0 : goal.returns-then-len-eq0
