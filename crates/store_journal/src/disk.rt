@@ -1,4 +1,4 @@
-//! What the store asks of a disk: five calls on three areas, what they do and when they may fail.
+//! What the store asks of a disk: four calls on three areas, what they do and when they may fail.
 
 ghost use Rattle.std.specs.Prelude.{◌≡◌, ◌<◌, ◌≤◌, ◌+◌, ℕ, Bool, true, false, length, IfOk, OnOk, OnErr};
 ghost use Rattle.std.specs.Bool.{OnTrue};
@@ -46,7 +46,8 @@ pub trait Disk {
         ensures kept_synced { synced self.new ≡ synced self.old }
         ensures read { OnOk result (OnTrue tells (Reads (contents self.old) area at into.new)) };
 
-    /// Writes octets over an area from `at` on, and past its end. A write that would end past `LAST_END` fails. After a fault nothing is said of what this area holds, but the others hold what they held.
+    /// Writes octets over an area from `at` on, and past its end. A write that would end past `LAST_END` fails. After a
+    /// fault nothing is said of what this area holds, but the others hold what they held.
     fn write_at(&mut self, area: Area, at: u64, bytes: &[u8]) -> Result<(), DiskFailed>
         requires some { 0 < length bytes.now }
         requires inside { OnTrue tells (IsWithin (contents self.old) area at) }

@@ -33,8 +33,8 @@ pub struct Journal<D: Disk> {
 
 impl<D: Disk> Journal<D> {
     /// Opens the store on a disk, with all its payloads still to be handed out. A store that isn't born
-    /// is born with `birth`. `Foreign` comes where the areas are no store of ours, and leaves them;
-    /// `Disk` comes only where the disk counted a fault. Each fault gives the disk back.
+    /// is born with `birth`, and then all its areas are synced. `Foreign` comes where the areas are no store of
+    /// ours, and leaves them; `Disk` comes only where the disk counted a fault. Each fault gives the disk back.
     pub fn open(alloc: Global, disk: D, birth: u64) -> Result<Journal<D>, (D, OpenFault)>
         ensures opened { IfOk result (λ journal. IsJournal D.tells D.contents journal (birth_of journal) (left journal)) }
         ensures kept { IfOk result (IsKept D.tells D.contents) }
@@ -49,6 +49,7 @@ impl<D: Disk> Journal<D> {
         ensures untouched { IfOk result (λ journal. OnTrue D.tells (IsUntouched (D.contents disk) (D.contents (disk_of journal)))) }
         ensures untouched_back { IfErr result (λ fault. OnTrue D.tells (IsUntouched (D.contents disk) (D.contents fault.0))) }
         ensures unchanged { IfErr result (λ fault. IsUnlessDisk fault.1 (D.contents fault.0 ≡ D.contents disk)) }
+        ensures spared { IfErr result (λ fault. IsUnlessDisk fault.1 (D.faults fault.0 ≡ D.faults disk)) }
         ensures failed { IfErr result (λ fault. (fault.1 ≡ OpenFault.Disk) → Rose (D.faults disk) (D.faults fault.0)) }
         ensures faults { IfErr result (λ fault. D.faults disk ≤ D.faults fault.0) }
         ensures calls_back { IfErr result (λ fault. D.calls fault.0 ≤ D.calls disk + 10) }

@@ -33,11 +33,7 @@ impl MemArea {
         ensures synced { self.new.is_synced ≡ self.old.is_synced }
     {
         let behind = self.octets.len() - at;
-        let over = if bytes.len() < behind {
-            bytes.len()
-        } else {
-            behind
-        };
+        let over = bytes.len().min(behind);
         self.octets.extend_from_slice(&bytes[over..])?;
         self.octets[at..at + over].copy_from_slice(&bytes[..over]);
         Ok(())

@@ -10,8 +10,8 @@ use crate::{Area, Disk, DiskFailed};
 use kn_base::{MemCalls, Memory, Octets, raised};
 use std::alloc::Global;
 
-/// Three areas in memory. The calls whose numbers, from 0, are in the list of failing ones fail, and
-/// do nothing but count. Want of memory is a counted fault.
+/// Three areas in memory. The calls whose numbers, from 0, are in the list of failing ones fail, and leave what the
+/// areas hold. Want of memory is a counted fault.
 #[derive(Drop)]
 pub struct MemDisk {
     a: MemArea,
