@@ -23,7 +23,7 @@ pub enum Runs {
 /// What a case sets up.
 #[derive(Clone, Copy)]
 pub struct Case<'a> {
-    /// `words W1 W2 ..`: the words of the program.
+    /// `words A B ..`: the words of the program.
     pub words: &'a [u8],
     /// `file TEXT`: the text of gate.conf, with escapes. `no file`: there is none.
     pub file: Option<&'a [u8]>,
