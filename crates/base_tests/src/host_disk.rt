@@ -9,7 +9,8 @@ use std::io;
 use std::os::unix::fs::{PermissionsExt, symlink};
 use std::process::Abort;
 use std::test::Fail;
-use store_journal::{Area, Disk, DiskFailed, HostDisk, OpenFault};
+use store_disk::{Area, Disk, DiskFailed, HostDisk};
+use store_journal::OpenFault;
 
 // Makes the folder of a test anew.
 fn make_folder<R: Files + Alloc>(rt: &R, name: &str) -> io::Result<()> {

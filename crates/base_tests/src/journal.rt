@@ -9,7 +9,8 @@ use std::alloc::Global;
 use std::fmt::Debug;
 use std::process::Abort;
 use std::test::Fail;
-use store_journal::{Area, Disk, Journal, MemDisk, OpenFault};
+use store_disk::{Area, Disk, MemDisk};
+use store_journal::{Journal, OpenFault};
 
 /// The birth of the stores of these tests.
 const BIRTH: u64 = 0x0102030405060708;

@@ -4,7 +4,7 @@ use Rattle.std.proofs.lemmas.List.{map-append}
 use Rattle.std.proofs.lemmas.List.Elements.{All-push}
 use Rattle.std.proofs.lemmas.List.Sums.{sum_by-append}
 use Rattle.kn_base.specs.Count.{last_count}
-use Rattle.store_journal.specs.Disk.{Areas}
+use Rattle.store_disk.specs.Disk.{Areas}
 use Rattle.store_journal.specs.Journal.{IsJournal, HoldsMore, IsHandedOut}
 use Rattle.sms_record.specs.declared.entry.accept.Accept.{Accept}
 use Rattle.sms_record.specs.Entry.{IsAccept, accept_octets}

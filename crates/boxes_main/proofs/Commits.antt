@@ -8,7 +8,7 @@ use Rattle.sendsms_http.specs.Acceptor.{Deed, IsSpared}
 use Rattle.sendsms_http.specs.declared.reply.Refusal.{Refusal}
 use Rattle.sendsms_http.specs.declared.reply.Refusal.TheVariants.{NoRoute, Full, Disk, Memory}
 use Rattle.sendsms_http.specs.declared.reply.Reply.{Reply}
-use Rattle.store_journal.specs.Disk.{Areas}
+use Rattle.store_disk.specs.Disk.{Areas}
 use Rattle.sms_record.specs.declared.entry.accept.Accept.{Accept}
 use Rattle.boxes_main.specs.Deeds.{Does, Leads, IsReason, AreReasoned, CountsFault, is_by_disk, entries_of, done_of}
 use Rattle.boxes_main.specs.Store.{IsStore, disk_in, is_store_broken}

@@ -4,7 +4,7 @@ use Rattle.std.specs.Prelude.{map, option_map}
 use Rattle.std.specs.Bool.{OnTrue}
 use Rattle.kn_base.specs.Count.{Rose}
 use Rattle.kn_base.specs.Course.{Course}
-use Rattle.store_journal.specs.Disk.{Areas}
+use Rattle.store_disk.specs.Disk.{Areas}
 use Rattle.boxes_main.specs.Door.{Asks, IsConfigured, IsServed, IsUnserved, ComesTo}
 use Rattle.boxes_main.specs.DoorSteps.{Opens, ServesOne, Ends}
 use Rattle.boxes_main.specs.Failure.{status_of}

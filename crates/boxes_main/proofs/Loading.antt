@@ -4,7 +4,7 @@ use Rattle.std.proofs.lemmas.List.{map-append, append-nil}
 use Rattle.std.proofs.lemmas.List.Elements.{All-nil, All-push, All-head, All-tail}
 use Rattle.std.proofs.lemmas.List.Sums.{sum_by-append}
 use Rattle.kn_base.specs.Count.{last_count}
-use Rattle.store_journal.specs.Disk.{Areas}
+use Rattle.store_disk.specs.Disk.{Areas}
 use Rattle.store_journal.specs.Journal.{IsJournal, HoldsSame, Hands, disk_of, birth_of, left}
 use Rattle.store_journal.specs.declared.journal.Journal.{Journal}
 use Rattle.sms_record.specs.declared.entry.accept.Accept.{Accept}

@@ -3,9 +3,9 @@ use Rattle.std.proofs.Common.{◌≡◌, ℕ, Bool, true, false, List, [], ◌�
 use Rattle.std.specs.Bool.{OnTrue}
 use Rattle.std.proofs.lemmas.List.Elements.{All-nil}
 use Rattle.store_journal.specs.Area.{Standing, unborn, born, foreign, stands}
-use Rattle.store_journal.specs.Disk.{Areas}
+use Rattle.store_disk.specs.Disk.{Areas}
 use Rattle.store_journal.specs.Journal.{OpensAs, IsUntouched, disk_of, area_of, birth_of, left}
-use Rattle.store_journal.specs.declared.area.Area.{Area}
+use Rattle.store_disk.specs.declared.area.Area.{Area}
 use Rattle.store_journal.specs.declared.journal.Journal.{Journal}
 use Rattle.sms_record.specs.declared.entry.accept.Accept.{Accept}
 use Rattle.sms_record.specs.Entry.{IsAccept}

@@ -8,7 +8,7 @@ use Rattle.sendsms_http.specs.Acceptor.{Deed}
 use Rattle.sendsms_http.specs.Session.{AddsAll, Talks}
 use Rattle.sendsms_http.specs.declared.http_end.HttpEnd.{HttpEnd}
 use Rattle.store_journal.specs.Area.{stands}
-use Rattle.store_journal.specs.Disk.{Areas}
+use Rattle.store_disk.specs.Disk.{Areas}
 use Rattle.sms_record.specs.declared.entry.accept.Accept.{Accept}
 use Rattle.boxes_main.specs.Accepts.{StandsFor}
 use Rattle.boxes_main.specs.Deeds.{Leads, done_of}

@@ -1,7 +1,7 @@
 -- Looking a disk up by its name, from the front of a list.
 use Rattle.std.proofs.Common.{◌≡◌, ℕ, suc, ◌+◌, ◌<◌, true, false, cond, nat_eq, List, ◌∷◌, length, get_or, drop, Some, ap, drop-cons, add-one}
 use Rattle.std.specs.Cmp.Lexicographic.{pointwise}
-use Rattle.store_journal.specs.declared.mem_disk.MemDisk.{MemDisk}
+use Rattle.store_disk.specs.declared.mem_disk.MemDisk.{MemDisk}
 use Rattle.boxes_main.specs.Disks.{disk_under, without}
 
 module _ (name : List ℕ) (disks : List (List ℕ × MemDisk)) (at : ℕ) (d : List ℕ × MemDisk) where

@@ -1,7 +1,7 @@
 -- What the store keeps: the entries of messages that were accepted together.
 use Rattle.std.specs.Prelude.{◌≡◌, ◌⊎◌, ℕ, List, [], length, map, All, sum_by}
 use Rattle.store_journal.specs.Area.{Standing, unborn, born, foreign, stands}
-use Rattle.store_journal.specs.Disk.{Areas}
+use Rattle.store_disk.specs.Disk.{Areas}
 use Rattle.sms_record.specs.declared.entry.accept.Accept.{Accept}
 use Rattle.sms_record.specs.Entry.{IsAccept, accept_octets}
 

@@ -7,7 +7,7 @@ use Rattle.sendsms_http.specs.declared.reply.Refusal.{Refusal}
 use Rattle.sendsms_http.specs.declared.reply.Refusal.TheVariants.{NoRoute, Full, Disk, Memory}
 use Rattle.sendsms_http.specs.declared.reply.Reply.{Reply}
 use Rattle.sendsms_http.specs.declared.reply.Reply.TheVariants.{Accepted}
-use Rattle.store_journal.specs.Disk.{Areas}
+use Rattle.store_disk.specs.Disk.{Areas}
 use Rattle.sms_record.specs.declared.entry.accept.Accept.{Accept}
 use Rattle.boxes_main.specs.Accepts.{messages}
 use Rattle.boxes_main.specs.Store.{IsStore, disk_in, waiting_in, is_store_broken, queue_limit}

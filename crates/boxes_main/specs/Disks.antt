@@ -1,9 +1,9 @@
 -- Disks in memory by their names.
 use Rattle.std.specs.Prelude.{◌≡◌, ℕ, List, [], ◌∷◌, Option, Some, None, nat_eq, if◌then◌else◌}
 use Rattle.std.specs.Cmp.Lexicographic.{pointwise}
-use Rattle.store_journal.specs.Disk.{Areas, no_areas}
-use Rattle.store_journal.specs.MemDisk.{mem_areas, mem_calls}
-use Rattle.store_journal.specs.declared.mem_disk.MemDisk.{MemDisk}
+use Rattle.store_disk.specs.Disk.{Areas, no_areas}
+use Rattle.store_disk.specs.MemDisk.{mem_areas, mem_calls}
+use Rattle.store_disk.specs.declared.mem_disk.MemDisk.{MemDisk}
 
 -- the first disk under a name
 abbrev pub disk_under : List ℕ → List (List ℕ × MemDisk) → Option MemDisk

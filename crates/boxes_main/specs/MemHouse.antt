@@ -4,7 +4,7 @@ use Rattle.kn_base.specs.MemClock.{answers_of}
 use Rattle.kn_base.specs.declared.mem_clock.MemClock.{MemClock}
 use Rattle.kn_base.specs.declared.mem_peer.MemPeer.{MemPeer}
 use Rattle.kn_base.specs.declared.mem_shelf.MemShelf.{MemShelf}
-use Rattle.store_journal.specs.declared.mem_disk.MemDisk.{MemDisk}
+use Rattle.store_disk.specs.declared.mem_disk.MemDisk.{MemDisk}
 use Rattle.boxes_main.specs.House.{Rooms, Stock}
 use Rattle.boxes_main.specs.Disks.{disk_under, areas_in}
 use Rattle.boxes_main.specs.declared.mem_house.MemHouse.{MemHouse}

@@ -5,7 +5,7 @@ use kn_base::{HostClock, HostErrors, HostPeer, HostShelf, Memory, raised};
 use std::alloc::Global;
 use std::fs::{File, Files};
 use std::rt::Runtime;
-use store_journal::HostDisk;
+use store_disk::HostDisk;
 
 /// Standard input, output and error, the machine's clock, and the files of the folder that the program runs in.
 #[derive(Drop)]
@@ -42,7 +42,7 @@ impl<R: Runtime + Files<File = File> + Copy> House for HostHouse<R> {
     type Er = HostErrors<R>;
 
     ghost use Rattle.std.specs.Prelude.{None, refl};
-    ghost use Rattle.store_journal.specs.Disk.{no_areas};
+    ghost use Rattle.store_disk.specs.Disk.{no_areas};
 
     ghost rooms = { λ h. record { visitor = h.visitor; shelf = h.shelf; errors = h.errors } };
 

@@ -6,7 +6,7 @@ ghost use Rattle.boxes_main.specs.House.{Rooms, Stock, MakesOne, IsNewDisk, IsNe
 
 use kn_base::{Clock, Memory, Peer, Shelf, Sink};
 use std::alloc::Global;
-use store_journal::Disk;
+use store_disk::Disk;
 
 /// All that a command takes of the outside: the connection on standard input and output, disks, clocks, files and
 /// standard error. No call opens a file.

@@ -3,12 +3,12 @@
 ghost use Rattle.std.specs.Prelude.{◌≡◌, true, Some, drop, IfOk, OnOk, OnErr};
 ghost use Rattle.boxes_main.specs.Disks.{disk_under, without, areas_in, failing_in};
 ghost use Rattle.boxes_main.specs.House.{MakesOne, IsNewDisk, IsNewClock, IsToldWord};
-ghost use Rattle.store_journal.specs.MemDisk.{mem_areas, mem_calls, mem_faults};
+ghost use Rattle.store_disk.specs.MemDisk.{mem_areas, mem_calls, mem_faults};
 
 use crate::House;
 use kn_base::{MemClock, MemPeer, MemShelf, Memory, Octets, raised};
 use std::alloc::Global;
-use store_journal::MemDisk;
+use store_disk::MemDisk;
 
 /// A house that hands out what its lists hold, as new: clocks in their order, and disks by their names, of two under
 /// one name the first. Where a list is used up it hands out one without contents.

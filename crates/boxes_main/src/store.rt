@@ -17,7 +17,8 @@ use sendsms_http::{Acceptor, Refusal, Reply};
 use sms_record::entry::{Accept, read_accept, write_accept};
 use sms_record::{RecordFault, Sms};
 use std::alloc::Global;
-use store_journal::{Disk, DiskFailed, Journal, OpenFault};
+use store_disk::{Disk, DiskFailed};
+use store_journal::{Journal, OpenFault};
 
 /// How many messages may wait.
 pub const QUEUE_LIMIT: u64 = 1_000_000;

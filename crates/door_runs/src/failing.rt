@@ -5,7 +5,7 @@ use crate::outcome::{Outcome, put_disk, put_outcome, put_status, put_told};
 use crate::run::{disk_of, run, visitor_of};
 use kn_base::{Memory, Octets};
 use std::alloc::Global;
-use store_journal::MemDisk;
+use store_disk::MemDisk;
 
 /// More calls than any run makes.
 const MOST_CALLS: u64 = 1_000;

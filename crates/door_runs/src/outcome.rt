@@ -3,7 +3,7 @@
 use crate::escape::put_text;
 use kn_base::{Memory, Octets, Past, Piece, write_decimal, write_hex};
 use std::alloc::Global;
-use store_journal::{Area, MemDisk};
+use store_disk::{Area, MemDisk};
 
 /// What a run left.
 #[derive(Drop)]

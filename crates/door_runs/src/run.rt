@@ -8,7 +8,7 @@ use crate::script::cut_at;
 use boxes_main::{MemHouse, STORE_FILE, door};
 use kn_base::{HexFault, MemClock, MemPeer, MemShelf, MemTake, Memory, Octets, Peer, read_hex};
 use std::alloc::Global;
-use store_journal::MemDisk;
+use store_disk::MemDisk;
 
 /// The words of a text, which stand between blanks.
 fn words_of(alloc: Global, text: &[u8]) -> Result<Vec<Octets>, Memory> {

@@ -1,9 +1,9 @@
 -- What the calls of a journal keep.
 use Rattle.std.proofs.Common.{◌≡◌, ℕ, ◌+◌, ◌-◌, ◌<◌, ◌≤◌, false, List, [], ◌∷◌, ◌++◌, length, take, drop, sym, ◌∙◌, ap, subst, arith, length-append, append_assoc, Bool, true}
 use Rattle.std.specs.Bool.{OnTrue}
-use Rattle.store_journal.specs.Disk.{Areas, after_write}
+use Rattle.store_disk.specs.Disk.{Areas, after_write}
 use Rattle.store_journal.specs.Area.{stands, born, gate_place, unit, units, IsPayload, IsStored}
-use Rattle.store_journal.specs.declared.area.Area.{Area}
+use Rattle.store_disk.specs.declared.area.Area.{Area}
 use Rattle.store_journal.specs.Journal.{IsJournal, left, reserved}
 use Rattle.store_journal.specs.declared.journal.Journal.{Journal}
 use Rattle.std.proofs.lemmas.List.{append-nil}

@@ -2,10 +2,10 @@
 use Rattle.std.proofs.Common.{◌≡◌, ℕ, List, [], ◌∷◌, ◌++◌, sym, ◌∙◌, subst, Bool, true, false, append_assoc}
 use Rattle.std.specs.Bool.{OnTrue}
 use Rattle.std.proofs.lemmas.List.{append-nil}
-use Rattle.store_journal.specs.Disk.{Areas}
+use Rattle.store_disk.specs.Disk.{Areas}
 use Rattle.store_journal.specs.Area.{born, stands}
 use Rattle.store_journal.specs.Journal.{IsJournal, HoldsSame, HoldsMore, OpensAs, IsCause, area_of, disk_of}
-use Rattle.store_journal.specs.declared.area.Area.{Area}
+use Rattle.store_disk.specs.declared.area.Area.{Area}
 use Rattle.store_journal.specs.declared.fault.OpenFault.{OpenFault}
 use Rattle.store_journal.specs.declared.fault.OpenFault.TheVariants.{Foreign, Disk, Memory}
 use Rattle.store_journal.specs.declared.journal.Journal.{Journal}

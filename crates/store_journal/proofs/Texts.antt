@@ -12,10 +12,10 @@ use Rattle.exact_octets.specs.declared.read_fault.ReadFault.{ReadFault}
 use Rattle.exact_octets.specs.declared.read_fault.ReadFault.TheVariants as faults
 use Rattle.exact_octets.proofs.Readers.{AreOctets, AreOctets-rest, Answers}
 use Rattle.exact_octets.proofs.Streams.{many_again, many_reads}
-use Rattle.store_journal.specs.Disk.{Areas, octets_of, with_octets, written, after_write}
+use Rattle.store_disk.specs.Disk.{Areas, octets_of, with_octets, written, after_write}
 use Rattle.store_journal.specs.Area.{unborn, born, foreign, header, header_at, unit, unit_at, units, area_text, gate_place, reading, reading_of, stands, standing, picked, begins_closed, behind_units, payloads_in, IsPayload, IsText, IsStored}
-use Rattle.store_journal.specs.declared.area.Area.{Area}
-use Rattle.store_journal.specs.declared.area.Area.TheVariants.{A, B, Pick}
+use Rattle.store_disk.specs.declared.area.Area.{Area}
+use Rattle.store_disk.specs.declared.area.Area.TheVariants.{A, B, Pick}
 use Rattle.store_journal.specs.Journal.{IsCause, OpensAs}
 use Rattle.store_journal.specs.Opening.{IsMisfit, IsMisfitOf, IsRead, after_birth}
 use Rattle.store_journal.specs.declared.fault.OpenFault.{OpenFault}

@@ -8,9 +8,9 @@ use Rattle.exact_octets.specs.Alphabet.{within}
 use Rattle.exact_octets.specs.Numbers.{from_to, number}
 use Rattle.exact_octets.specs.Spelling.{counted}
 use Rattle.exact_octets.specs.Reading.{Reader, both, made, given, octet_at, number_at, counted_at, kind_at, many}
-use Rattle.store_journal.specs.Disk.{Areas, octets_of}
-use Rattle.store_journal.specs.declared.area.Area.{Area}
-use Rattle.store_journal.specs.declared.area.Area.TheVariants.{A, B}
+use Rattle.store_disk.specs.Disk.{Areas, octets_of}
+use Rattle.store_disk.specs.declared.area.Area.{Area}
+use Rattle.store_disk.specs.declared.area.Area.TheVariants.{A, B}
 
 -- ---- the header
 

@@ -1,7 +1,7 @@
 -- What several disk calls cost, and how their faults are counted.
 use Rattle.std.specs.Prelude.{◌≡◌, ◌≤◌, ◌+◌, ℕ, Result, OnOk, OnErr, IfErr, IsErrOf}
 use Rattle.kn_base.specs.Count.{Rose}
-use Rattle.store_journal.specs.declared.disk.DiskFailed.{DiskFailed}
+use Rattle.store_disk.specs.declared.disk.DiskFailed.{DiskFailed}
 use Rattle.store_journal.specs.Journal.{IsUnlessDisk}
 use Rattle.store_journal.specs.declared.fault.OpenFault.{OpenFault}
 use Rattle.store_journal.specs.declared.fault.OpenFault.TheVariants.{Disk}

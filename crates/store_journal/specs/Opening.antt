@@ -4,11 +4,11 @@ use Rattle.std.specs.Bool.{OnTrue}
 use Rattle.exact_octets.specs.declared.read_fault.ReadFault.{ReadFault}
 use Rattle.exact_octets.specs.declared.read_fault.ReadFault.TheVariants as faults
 use Rattle.exact_octets.specs.Reading.{many}
-use Rattle.store_journal.specs.Disk.{Areas, octets_of, after_write}
+use Rattle.store_disk.specs.Disk.{Areas, octets_of, after_write}
 use Rattle.store_journal.specs.Area.{foreign, stands, header, header_at, reading, fault_place, gate_place, unit, units, unit_at, area_text, payloads_in, behind_units, IsPayload, IsStored}
 use Rattle.store_journal.specs.Journal.{OpensAs}
-use Rattle.store_journal.specs.declared.area.Area.{Area}
-use Rattle.store_journal.specs.declared.area.Area.TheVariants.{A, B, Pick}
+use Rattle.store_disk.specs.declared.area.Area.{Area}
+use Rattle.store_disk.specs.declared.area.Area.TheVariants.{A, B, Pick}
 use Rattle.store_journal.specs.declared.fault.OpenFault.{OpenFault}
 use Rattle.store_journal.specs.declared.fault.OpenFault.TheVariants.{Foreign, Disk, Memory}
 use Rattle.store_journal.specs.declared.found.Found.{Found}

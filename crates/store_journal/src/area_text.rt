@@ -5,11 +5,12 @@ ghost use Rattle.exact_octets.specs.Telling.{IsPlaced};
 ghost use Rattle.store_journal.specs.Area.{area_text, begins_closed, behind_units as behind_units_front, gate_place, payloads_in, IsText};
 ghost use Rattle.store_journal.specs.Opening.{IsMisfit, IsMisfitOf, IsRead};
 
+use crate::OpenFault;
 use crate::header::header_at;
 use crate::unit::{CLOSED, OPEN, first_unit};
-use crate::{Area, OpenFault};
 use exact_octets::ReadFault;
 use kn_base::Memory;
+use store_disk::Area;
 
 /// How many octets an area without payloads has: a header and a closed gate.
 pub const FRESH: usize = 17;

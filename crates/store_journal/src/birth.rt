@@ -4,14 +4,15 @@ ghost use Rattle.std.specs.Prelude.{◌≡◌, ◌≤◌, [], length, IfErr, OnO
 ghost use Rattle.std.specs.Bool.{OnTrue};
 ghost use Rattle.store_journal.specs.Area.{picked, stands, unborn, IsStored};
 ghost use Rattle.store_journal.specs.Costs.{Spares, Spends};
-ghost use Rattle.store_journal.specs.Disk.{all_synced, octets_of};
+ghost use Rattle.store_disk.specs.Disk.{all_synced, octets_of};
 ghost use Rattle.store_journal.specs.Journal.{IsCause, IsUnlessDisk, IsUntouched};
 ghost use Rattle.store_journal.specs.Opening.{IsMore, after_birth};
 
+use crate::OpenFault;
 use crate::area_text::{FRESH, fresh_area};
 use crate::commit::write_synced;
 use crate::pick::PICKS_A;
-use crate::{Area, Disk, DiskFailed, OpenFault};
+use store_disk::{Area, Disk, DiskFailed};
 
 // Refuses an area of a store that isn't born, where it holds more than a birth would write.
 fn refuse_more<D: Disk>(disk: &mut D, area: Area) -> Result<(), OpenFault>

@@ -3,11 +3,10 @@
 ghost use Rattle.std.specs.Prelude.{◌≡◌, ◌<◌, ◌≤◌, ◌+◌, true, length, OnOk};
 ghost use Rattle.std.specs.Bool.{OnTrue};
 ghost use Rattle.store_journal.specs.Costs.{Spends};
-ghost use Rattle.store_journal.specs.Disk.{ChangesOnly, IsWithin, after_write, with_synced};
+ghost use Rattle.store_disk.specs.Disk.{ChangesOnly, IsWithin, after_write, with_synced};
 
-use crate::disk::LAST_END;
 use crate::unit::CLOSED;
-use crate::{Area, Disk, DiskFailed};
+use store_disk::{Area, Disk, DiskFailed, LAST_END};
 
 /// Writes octets to an area from a place on, which is in octets, and syncs the area.
 pub fn write_synced<D: Disk>(

@@ -3,9 +3,9 @@
 ghost use Rattle.std.specs.Prelude.{◌≡◌};
 ghost use Rattle.store_journal.specs.declared.fault.OpenFault.TheVariants.{Disk, Memory};
 
-use crate::{Area, DiskFailed};
 use kn_base::Memory as WantOfMemory;
 use std::alloc::AllocError;
+use store_disk::{Area, DiskFailed};
 
 /// Why an opening, or the handing out of its payloads, stopped.
 #[derive(Clone, Copy, Debug, PartialEq)]

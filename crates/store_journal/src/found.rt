@@ -3,17 +3,18 @@
 ghost use Rattle.std.specs.Prelude.{◌≡◌, ℕ, drop, IfOk, IfErr, OnOk, Some};
 ghost use Rattle.std.specs.Bool.{OnTrue};
 ghost use Rattle.store_journal.specs.Area.{picked, stands, payloads_in};
-ghost use Rattle.store_journal.specs.Disk.{octets_of};
+ghost use Rattle.store_disk.specs.Disk.{octets_of};
 ghost use Rattle.store_journal.specs.Costs.{Spares};
 ghost use Rattle.store_journal.specs.Journal.{IsCause, IsUnlessDisk, IsUntouched, synced_after};
 ghost use Rattle.store_journal.specs.Opening.{IsFound};
 
+use crate::OpenFault;
 use crate::area_text::check;
 use crate::birth::bear;
 use crate::header::HEADER;
 use crate::pick::read_pick;
-use crate::{Area, Disk, OpenFault};
 use std::alloc::Global;
+use store_disk::{Area, Disk};
 
 /// What an opening found: the picked area, its octets, the place of the first unit in them, and the
 /// place of the closed gate in the area.

@@ -3,16 +3,17 @@
 ghost use Rattle.std.specs.Prelude.{◌≡◌, ◌<◌, ◌≤◌, ◌+◌, ◌^◌, ◌∷◌, [], true, length, IfOk, IfErr, OnOk, OnErr};
 ghost use Rattle.std.specs.Bool.{OnTrue};
 ghost use Rattle.kn_base.specs.Count.{Rose};
-ghost use Rattle.store_journal.specs.Disk.{ChangesOnly, with_synced};
+ghost use Rattle.store_disk.specs.Disk.{ChangesOnly, with_synced};
 ghost use Rattle.store_journal.specs.Area.{IsPayload, stands, born};
 ghost use Rattle.store_journal.specs.Journal.{IsJournal, IsKept, HoldsMore, HoldsSame, AppendsUnit, IsHandedOut, disk_of, area_of, birth_of, is_broken, left, reserved, Hands, OpensAs, IsCause, IsUnlessDisk, IsUntouched, synced_after};
 
+use crate::OpenFault;
 use crate::commit::{close_gate, write_synced};
 use crate::found::{Found, load};
 use crate::unit::{first_unit, unit_and_gate};
-use crate::{Area, Disk, DiskFailed, OpenFault};
 use kn_base::{Memory, Octets};
 use std::alloc::Global;
+use store_disk::{Area, Disk, DiskFailed};
 
 /// The payloads of a store, on a disk. After a call of the disk has failed it can only be closed.
 #[derive(Drop)]

@@ -5,7 +5,8 @@ ghost use Rattle.std.specs.Bool.{OnTrue};
 ghost use Rattle.store_journal.specs.Area.{picked};
 ghost use Rattle.store_journal.specs.Costs.{Spares};
 
-use crate::{Area, Disk, OpenFault};
+use crate::OpenFault;
+use store_disk::{Area, Disk};
 
 /// The first octet of Pick that a birth writes. It picks the area A, as any does but that of B.
 pub const PICKS_A: u8 = 1;

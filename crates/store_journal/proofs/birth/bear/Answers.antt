@@ -1,6 +1,6 @@
 use Rattle.std.proofs.Common.{◌≡◌, ◌∙◌, subst}
 use Rattle.std.specs.Bool.{OnTrue}
-use Rattle.store_journal.specs.Disk.{Areas}
+use Rattle.store_disk.specs.Disk.{Areas}
 use Rattle.store_journal.specs.Opening.{after_birth}
 use Rattle.store_journal.proofs.Texts.{stored_birth}
 use Rattle.store_journal.proofs.birth.bear.Goals as goal

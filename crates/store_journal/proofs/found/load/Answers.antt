@@ -1,9 +1,9 @@
 use Rattle.std.proofs.Common.{List, ℕ, refl, arith, ap, sym, ◌∙◌, ◌≡◌, [], subst}
 use Rattle.std.specs.Bool.{OnTrue}
 use Rattle.store_journal.specs.Area.{payloads_in, stands, unborn, IsStored, gate_place}
-use Rattle.store_journal.specs.Disk.{Areas}
+use Rattle.store_disk.specs.Disk.{Areas}
 use Rattle.store_journal.specs.Journal.{OpensAs}
-use Rattle.store_journal.specs.declared.area.Area.TheVariants.{A}
+use Rattle.store_disk.specs.declared.area.Area.TheVariants.{A}
 use Rattle.store_journal.proofs.Units.{no_payloads}
 use Rattle.store_journal.proofs.Texts.{opens_unborn, stored_none}
 use Rattle.store_journal.proofs.found.load.Goals as goal

@@ -1,7 +1,7 @@
 use Rattle.std.proofs.Common.{List, ℕ, refl, arith, ap, sym, ◌∙◌, ◌≡◌, subst, drop}
 use Rattle.std.specs.Bool.{OnTrue}
 use Rattle.store_journal.specs.Area.{gate_place, payloads_in, IsText, IsStored}
-use Rattle.store_journal.specs.Disk.{Areas, octets_of}
+use Rattle.store_disk.specs.Disk.{Areas, octets_of}
 use Rattle.store_journal.proofs.Texts.{stored_read, opens_read, foreign_read, place_within}
 use Rattle.store_journal.proofs.found.load_area.Goals as goal
 

@@ -1,6 +1,6 @@
 use Rattle.std.proofs.Common.{◌≡◌, List, ℕ, [], ◌∷◌, ◌++◌, refl, arith, length, ap, subst}
 use Rattle.std.specs.Bool.{OnTrue}
-use Rattle.store_journal.specs.Disk.{after_write}
+use Rattle.store_disk.specs.Disk.{after_write}
 use Rattle.store_journal.specs.Journal.{reserved}
 use Rattle.store_journal.proofs.Kept.{appended}
 use Rattle.store_journal.proofs.journal.Journal.append.Goals as goal

@@ -18,6 +18,26 @@ pub struct HostFile {
     is_named: bool,
 }
 
+/// Opens a file, which is made where it is missing, and locks it.
+fn open_locked<R: Files<File = File>>(rt: &R, path: &str) -> io::Result<File> {
+    let file = OpenOptions::new()
+        .read(true)
+        .write(true)
+        .create(true)
+        .mode(PRIVATE)
+        .open(rt, path)?;
+    file.try_lock()?;
+    Ok(file)
+}
+
+/// The folder that names the file of a path.
+fn folder_of(path: &str) -> &str {
+    match Path::new(path).parent().and_then(|folder| folder.to_str()) {
+        Some(folder) if !folder.is_empty() => folder,
+        _ => ".",
+    }
+}
+
 impl HostFile {
     /// The file of a name and an ending, which isn't opened.
     pub fn new(alloc: Global, name: &[u8], ending: &[u8]) -> Result<HostFile, Memory> {
@@ -38,17 +58,10 @@ impl HostFile {
         }
     }
 
-    // The file, which the first call opens, makes where it is missing, and locks.
+    // The file, which the first call opens.
     fn opened<R: Files<File = File>>(&mut self, rt: &R) -> io::Result<&mut File> {
         if self.file.is_none() {
-            let file = OpenOptions::new()
-                .read(true)
-                .write(true)
-                .create(true)
-                .mode(PRIVATE)
-                .open(rt, self.path()?)?;
-            file.try_lock()?;
-            self.file = Some(file);
+            self.file = Some(open_locked(rt, self.path()?)?);
         }
         match &mut self.file {
             Some(file) => Ok(file),
@@ -58,13 +71,7 @@ impl HostFile {
 
     // Syncs the folder that names the file.
     fn sync_folder<R: Files<File = File>>(&self, rt: &R) -> io::Result<()> {
-        let folder = match Path::new(self.path()?)
-            .parent()
-            .and_then(|folder| folder.to_str())
-        {
-            Some(folder) if !folder.is_empty() => folder,
-            _ => ".",
-        };
+        let folder = folder_of(self.path()?);
         OpenOptions::new().read(true).open(rt, folder)?.sync_all()
     }
 

@@ -1,7 +1,7 @@
 //! A disk of real files. It tells no contents: what a file holds is no matter of a proof.
 
 ghost use Rattle.std.specs.Prelude.{◌≡◌, IfOk, IsErr, MatchResult};
-ghost use Rattle.store_journal.specs.Disk.{CountsCall};
+ghost use Rattle.store_disk.specs.Disk.{CountsCall};
 
 use crate::disk::LAST_END;
 use crate::host_file::HostFile;
@@ -19,7 +19,23 @@ struct HostFiles {
     pick: HostFile,
 }
 
+// The files of the two areas of payloads.
+fn payload_files(alloc: Global, name: &[u8]) -> Result<(HostFile, HostFile), Memory> {
+    let a = HostFile::new(alloc, name, b".a")?;
+    Ok((a, HostFile::new(alloc, name, b".b")?))
+}
+
 impl HostFiles {
+    // The files of a name, none of which is opened.
+    fn new(alloc: Global, name: &[u8]) -> Result<HostFiles, Memory> {
+        let (a, b) = payload_files(alloc, name)?;
+        Ok(HostFiles {
+            a,
+            b,
+            pick: HostFile::new(alloc, name, b".pick")?,
+        })
+    }
+
     // The file of an area.
     fn of(&mut self, area: Area) -> &mut HostFile {
         match area {
@@ -51,14 +67,9 @@ impl<R: Files<File = File>> HostDisk<R> {
         ensures calls { IfOk result (λ disk. ⟦<HostDisk<R> as Disk>⟧.calls disk ≡ 0) }
         ensures faults { IfOk result (λ disk. ⟦<HostDisk<R> as Disk>⟧.faults disk ≡ 0) }
     {
-        let files = HostFiles {
-            a: HostFile::new(alloc, name, b".a")?,
-            b: HostFile::new(alloc, name, b".b")?,
-            pick: HostFile::new(alloc, name, b".pick")?,
-        };
         Ok(HostDisk {
             rt,
-            files,
+            files: HostFiles::new(alloc, name)?,
             calls: 0,
             faults: 0,
         })
@@ -81,7 +92,7 @@ impl<R: Files<File = File>> HostDisk<R> {
 }
 
 impl<R: Files<File = File>> Disk for HostDisk<R> {
-    ghost use Rattle.store_journal.specs.Disk.{no_areas, all_synced};
+    ghost use Rattle.store_disk.specs.Disk.{no_areas, all_synced};
     ghost use Rattle.std.specs.Prelude.{false};
 
     ghost tells = { false };

@@ -2,7 +2,7 @@
 
 ghost use Rattle.std.specs.Prelude.{◌≡◌, ◌<◌, ◌≤◌, ◌+◌, ℕ, Bool, true, false, length, IfOk, OnOk, OnErr};
 ghost use Rattle.std.specs.Bool.{OnTrue};
-ghost use Rattle.store_journal.specs.Disk.{Areas, CountsCall, IsWithin, OthersStay, Reads, Synced, after_write, octets_of, with_synced};
+ghost use Rattle.store_disk.specs.Disk.{Areas, CountsCall, IsWithin, OthersStay, Reads, Synced, after_write, octets_of, with_synced};
 
 use crate::Area;
 

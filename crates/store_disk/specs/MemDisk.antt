@@ -1,8 +1,8 @@
 -- What a disk in memory holds and has counted.
 use Rattle.std.specs.Prelude.{ℕ}
 use Rattle.kn_base.specs.Calls.{Calls}
-use Rattle.store_journal.specs.Disk.{Areas, Synced}
-use Rattle.store_journal.specs.declared.mem_disk.MemDisk.{MemDisk}
+use Rattle.store_disk.specs.Disk.{Areas, Synced}
+use Rattle.store_disk.specs.declared.mem_disk.MemDisk.{MemDisk}
 
 -- what the areas hold
 abbrev pub mem_areas : MemDisk → Areas

@@ -1,7 +1,7 @@
 //! One area of a disk in memory.
 
 ghost use Rattle.std.specs.Prelude.{◌≡◌, ◌≤◌, ◌<◌, ◌+◌, true, length, OnOk, OnErr};
-ghost use Rattle.store_journal.specs.Disk.{written};
+ghost use Rattle.store_disk.specs.Disk.{written};
 
 use kn_base::{Memory, Octets};
 

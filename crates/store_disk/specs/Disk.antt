@@ -1,9 +1,9 @@
 -- What the three areas of a disk hold, and what its calls do to them.
 use Rattle.std.specs.Prelude.{◌≡◌, ◌≤◌, ◌+◌, ℕ, Bool, true, List, [], ◌++◌, length, take, drop, Result, OnOk, OnErr}
 use Rattle.kn_base.specs.Count.{next_count}
-use Rattle.store_journal.specs.declared.area.Area.{Area}
-use Rattle.store_journal.specs.declared.area.Area.TheVariants.{A, B, Pick}
-use Rattle.store_journal.specs.declared.disk.DiskFailed.{DiskFailed}
+use Rattle.store_disk.specs.declared.area.Area.{Area}
+use Rattle.store_disk.specs.declared.area.Area.TheVariants.{A, B, Pick}
+use Rattle.store_disk.specs.declared.disk.DiskFailed.{DiskFailed}
 
 -- the octets of the three areas
 pub record Areas : Type 0 where

@@ -2,7 +2,7 @@
 
 ghost use Rattle.std.specs.Prelude.{◌≡◌, ◌+◌, ◌<◌, ◌↔◌, length, OnOk, OnErr, IsErr};
 ghost use Rattle.kn_base.specs.Calls.{IsFailing, one_more};
-ghost use Rattle.store_journal.specs.Disk.{CountsCall, IsWithin, after_write};
+ghost use Rattle.store_disk.specs.Disk.{CountsCall, IsWithin, after_write};
 
 use crate::disk::LAST_END;
 use crate::mem_area::MemArea;
@@ -22,8 +22,8 @@ pub struct MemDisk {
 }
 
 impl MemDisk {
-    ghost use Rattle.store_journal.specs.Disk.{octets_of, all_synced, with_synced};
-    ghost use Rattle.store_journal.specs.MemDisk.{mem_areas, mem_synced, mem_calls, mem_faults};
+    ghost use Rattle.store_disk.specs.Disk.{octets_of, all_synced, with_synced};
+    ghost use Rattle.store_disk.specs.MemDisk.{mem_areas, mem_synced, mem_calls, mem_faults};
 
     /// A disk that holds these octets, on which no call was made. It takes no memory.
     pub fn new(_alloc: Global, a: Octets, b: Octets, pick: Octets, failing: Vec<u64>) -> MemDisk
@@ -129,10 +129,34 @@ impl MemDisk {
     }
 }
 
+impl MemDisk {
+    ghost use Rattle.std.specs.Prelude.{◌≤◌, ◌⊎◌};
+    ghost use Rattle.store_disk.specs.Disk.{octets_of};
+    ghost use Rattle.store_disk.specs.MemDisk.{mem_areas, mem_synced, mem_calls, mem_faults};
+
+    // Writes to an area, unless the write would end past the last place. After `Memory`, which says that too, nothing has
+    // changed.
+    fn write_up_to_end(&mut self, area: Area, at: u64, bytes: &[u8]) -> Result<(), Memory>
+        requires { IsWithin (mem_areas self.old) area at }
+        ensures ok { OnOk result (mem_areas self.new ≡ after_write area at bytes.now (mem_areas self.old)) }
+        ensures end { OnOk result (at + length bytes.now ≤ LAST_END) }
+        ensures err { OnErr result (mem_areas self.new ≡ mem_areas self.old) }
+        ensures fails { OnErr result ((LAST_END < at + length bytes.now) ⊎ (length (octets_of (mem_areas self.old) area) < at + length bytes.now)) }
+        ensures synced { mem_synced self.new ≡ mem_synced self.old }
+        ensures calls { mem_calls self.new ≡ mem_calls self.old }
+        ensures faults { mem_faults self.new ≡ mem_faults self.old }
+    {
+        if at + bytes.len() as u64 > LAST_END {
+            return Err(Memory);
+        }
+        self.write(area, at as usize, bytes)
+    }
+}
+
 impl Disk for MemDisk {
     ghost use Rattle.std.specs.Prelude.{◌+◌, ◌<◌, ◌≤◌, ◌⊎◌, true, false, length, IfOk};
-    ghost use Rattle.store_journal.specs.Disk.{OthersStay, Reads, octets_of, with_synced};
-    ghost use Rattle.store_journal.specs.MemDisk.{mem_areas, mem_synced, mem_calls, mem_faults};
+    ghost use Rattle.store_disk.specs.Disk.{OthersStay, Reads, octets_of, with_synced};
+    ghost use Rattle.store_disk.specs.MemDisk.{mem_areas, mem_synced, mem_calls, mem_faults};
 
     ghost tells = { true };
 
@@ -188,12 +212,13 @@ impl Disk for MemDisk {
     {
         self.set_synced(area, false);
         self.begin()?;
-        let fits = at + bytes.len() as u64 <= LAST_END;
-        if fits && self.write(area, at as usize, bytes).is_ok() {
-            return Ok(());
+        match self.write_up_to_end(area, at, bytes) {
+            Ok(()) => Ok(()),
+            Err(Memory) => {
+                self.faults = raised(self.faults);
+                Err(DiskFailed)
+            }
         }
-        self.faults = raised(self.faults);
-        Err(DiskFailed)
     }
 
     fn sync(&mut self, area: Area) -> Result<(), DiskFailed>
