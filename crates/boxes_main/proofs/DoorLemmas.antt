@@ -1,23 +1,25 @@
 -- The stages of `door`, put together.
-use Rattle.std.proofs.Common.{◌≡◌, ℕ, Bool, true, false, List, [], Option, Some, None, refl, ap, sym, ◌∙◌, subst}
-use Rattle.std.specs.Prelude.{map, option_map}
+use Rattle.std.proofs.Common.{◌≡◌, ℕ, Bool, true, false, List, [], Option, Some, None, ap, sym, ◌∙◌, subst}
+use Rattle.std.specs.Prelude.{option_map}
 use Rattle.std.specs.Bool.{OnTrue}
 use Rattle.kn_base.specs.Count.{Rose}
 use Rattle.kn_base.specs.Course.{Course}
+use Rattle.store_journal.specs.Area.{stands}
 use Rattle.store_disk.specs.Disk.{Areas}
-use Rattle.boxes_main.specs.Door.{Asks, IsConfigured, IsServed, IsUnserved, ComesTo}
+use Rattle.gate_store.specs.Accepts.{IsForeign, IsLeftAlone}
+use Rattle.boxes_main.specs.Door.{Asks, IsConfigured, IsServed, ComesTo}
 use Rattle.boxes_main.specs.DoorSteps.{Opens, ServesOne, Ends}
 use Rattle.boxes_main.specs.Failure.{status_of}
 use Rattle.boxes_main.specs.House.{Rooms, Stock, MakesOne, MakesFor, IsToldWord}
-use Rattle.boxes_main.specs.Store.{IsOpened, IsUnopened}
+use Rattle.gate_store.specs.Store.{IsOpened, IsUnopened}
 use Rattle.boxes_main.specs.Worker.{Worker}
 use Rattle.boxes_main.specs.declared.configuration.TheConstants.{STORE_FILE}
 use Rattle.boxes_main.specs.declared.failure.Failure.{Failure}
-use Rattle.boxes_main.specs.declared.failure.Failure.TheVariants.{Usage, Configuration, Store, Session}
+use Rattle.boxes_main.specs.declared.failure.Failure.TheVariants.{Store, Session}
 use Rattle.boxes_main.specs.declared.session.SessionFault.{SessionFault}
-use Rattle.boxes_main.specs.declared.store.Store as store
-use Rattle.boxes_main.specs.declared.store.StoreFault.{StoreFault}
-use Rattle.boxes_main.specs.declared.store.StoreFault.TheVariants.{Foreign, Disk, Memory}
+use Rattle.gate_store.specs.declared.store.Store as store
+use Rattle.gate_store.specs.declared.store_fault.StoreFault.{StoreFault}
+use Rattle.gate_store.specs.declared.store_fault.StoreFault.TheVariants.{Foreign, Disk, Memory}
 
 -- the birth that was told before a disk was made
 pub told_before : (old new : Stock) (birth : ℕ) → MakesOne old new → IsToldWord new.word birth → IsToldWord old.word birth
@@ -37,16 +39,17 @@ module _ {D : Type 0} (tells : Bool) (contents : D → Areas) (faults : D → �
   -- a disk that reads as stated, on which no store was opened
   pub unopened_as : (areas : Areas) (before birth : ℕ) (disk : D) (fault : StoreFault) → OnTrue tells (areas ≡ stated) → before ≡ 0
       → IsUnopened tells contents faults areas before birth disk fault → IsUnopened tells contents faults stated 0 birth disk fault
-  unopened_as areas before birth disk Foreign reads none is = by_told tells reads is
+  unopened_as areas before birth disk Foreign reads none is = (is.0 ∙ none, by_told tells reads is.1)
     where
-      by_told : (t : Bool) → OnTrue t (areas ≡ stated) → IsUnopened t contents faults areas before birth disk Foreign → IsUnopened t contents faults stated 0 birth disk Foreign
-      by_told true reads is = subst (λ (x : Areas). IsUnopened true contents faults x 0 birth disk Foreign) reads is
+      by_told : (t : Bool) → OnTrue t (areas ≡ stated) → OnTrue t (IsForeign (stands areas) × IsLeftAlone areas (contents disk) birth)
+          → OnTrue t (IsForeign (stands stated) × IsLeftAlone stated (contents disk) birth)
+      by_told true reads is = subst (λ (x : Areas). IsForeign (stands x) × IsLeftAlone x (contents disk) birth) reads is
       by_told false reads is = tt
   unopened_as areas before birth disk Disk reads none is = subst (λ n. Rose n (faults disk)) none is
-  unopened_as areas before birth disk Memory reads none is = by_told tells reads is
+  unopened_as areas before birth disk Memory reads none is = (is.0 ∙ none, by_told tells reads is.1)
     where
-      by_told : (t : Bool) → OnTrue t (areas ≡ stated) → IsUnopened t contents faults areas before birth disk Memory → IsUnopened t contents faults stated 0 birth disk Memory
-      by_told true reads is = subst (λ (x : Areas). IsUnopened true contents faults x 0 birth disk Memory) reads is
+      by_told : (t : Bool) → OnTrue t (areas ≡ stated) → OnTrue t (IsLeftAlone areas (contents disk) birth) → OnTrue t (IsLeftAlone stated (contents disk) birth)
+      by_told true reads is = subst (λ (x : Areas). IsLeftAlone x (contents disk) birth) reads is
       by_told false reads is = tt
 
 module _

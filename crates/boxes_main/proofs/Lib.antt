@@ -1,7 +1,3 @@
-pub mod Accepting
-pub mod Commits
 pub mod DoorLemmas
-pub mod Loading
-pub mod Opening
 pub mod Sessions
 pub mod Under

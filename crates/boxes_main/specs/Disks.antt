@@ -1,5 +1,5 @@
 -- Disks in memory by their names.
-use Rattle.std.specs.Prelude.{◌≡◌, ℕ, List, [], ◌∷◌, Option, Some, None, nat_eq, if◌then◌else◌}
+use Rattle.std.specs.Prelude.{ℕ, List, [], ◌∷◌, Option, Some, None, nat_eq, if◌then◌else◌}
 use Rattle.std.specs.Cmp.Lexicographic.{pointwise}
 use Rattle.store_disk.specs.Disk.{Areas, no_areas}
 use Rattle.store_disk.specs.MemDisk.{mem_areas, mem_calls}

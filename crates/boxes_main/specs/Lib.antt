@@ -1,13 +1,9 @@
-pub mod Accepts
 pub mod Command
 pub mod Configuration
-pub mod Deeds
 pub mod Disks
 pub mod Door
 pub mod DoorSteps
 pub mod Failure
 pub mod House
 pub mod MemHouse
-pub mod Store
-pub mod StoreSteps
 pub mod Worker

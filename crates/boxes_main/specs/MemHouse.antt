@@ -1,5 +1,5 @@
 -- What a house in memory shows.
-use Rattle.std.specs.Prelude.{◌≡◌, ℕ, List, [], ◌∷◌, Some}
+use Rattle.std.specs.Prelude.{ℕ, List, [], ◌∷◌, Some}
 use Rattle.kn_base.specs.MemClock.{answers_of}
 use Rattle.kn_base.specs.declared.mem_clock.MemClock.{MemClock}
 use Rattle.kn_base.specs.declared.mem_peer.MemPeer.{MemPeer}

@@ -4,7 +4,8 @@ ghost use Rattle.std.specs.Prelude.{◌≡◌};
 ghost use Rattle.boxes_main.specs.Failure.{row_of, status_of, Tells};
 
 use crate::command::USAGE;
-use crate::{ConfigurationFault, SessionFault, StoreFault};
+use crate::{ConfigurationFault, SessionFault};
+use gate_store::StoreFault;
 use kn_base::{Sink, write_all};
 
 /// What went wrong first, by the layer that it went wrong in.

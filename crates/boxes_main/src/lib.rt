@@ -1,9 +1,8 @@
 //! The commands of the gateway, over a house that hands out the outside.
 //!
 //! `House` is all that a command takes of the outside; `MemHouse` is one in memory, for tests, and `HostHouse` is the
-//! machine. `Store` keeps messages as entries in a journal and is what `serve_http` hands them to. `door` serves one
-//! connection over HTTP on standard input and output and returns `Ended`: the status, what went wrong, the disk and
-//! what the worker left.
+//! machine. `door` serves one connection over HTTP on standard input and output, over the store that the configuration
+//! names, and returns `Ended`: the status, what went wrong, the disk and what the worker left.
 //!
 //! The one contract: what `door` says answers what it heard, and the disk that it hands back stands for what it found
 //! there and, exactly where it said 202, for the new message behind it.
@@ -17,7 +16,6 @@ mod host_house;
 mod house;
 mod mem_house;
 mod session;
-mod store;
 
 pub use command::door::door;
 pub use command::{Command, USAGE, read_command};
@@ -28,4 +26,3 @@ pub use host_house::HostHouse;
 pub use house::House;
 pub use mem_house::MemHouse;
 pub use session::SessionFault;
-pub use store::{QUEUE_LIMIT, Store, StoreFault};

@@ -3,11 +3,12 @@
 ghost use Rattle.std.specs.Prelude.{◌≡◌, [], ◌∷◌, Some, IfOk, map, option_map};
 ghost use Rattle.boxes_main.specs.Door.{fault_by};
 ghost use Rattle.boxes_main.specs.DoorSteps.{HasRoom, ServesOne};
-ghost use Rattle.boxes_main.specs.Store.{IsOpen};
+ghost use Rattle.gate_store.specs.Store.{IsOpen};
 ghost use Rattle.boxes_main.specs.Worker.{worker_of};
 
 use crate::failure::status;
-use crate::{Ended, Failure, House, Role, SessionEnd, Store, WorkerEnd};
+use crate::{Ended, Failure, House, Role, SessionEnd, WorkerEnd};
+use gate_store::Store;
 use kn_base::{Items, Memory};
 use sendsms_http::{HttpEnd, serve_http};
 use std::alloc::Global;

@@ -12,7 +12,8 @@ use crate::command::{Command, read_command};
 use crate::configuration::{STORE_FILE, read_configuration};
 use crate::failure::{status, tell};
 use crate::session::{Room, make_room, serve};
-use crate::{Ended, Failure, House, Store, StoreFault};
+use crate::{Ended, Failure, House};
+use gate_store::{Store, StoreFault};
 use kn_base::{Items, Memory, Octets};
 use std::alloc::Global;
 

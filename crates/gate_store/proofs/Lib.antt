@@ -1,0 +1,4 @@
+pub mod Accepting
+pub mod Commits
+pub mod Loading
+pub mod Opening

@@ -1,0 +1,4 @@
+pub mod Accepts
+pub mod Deeds
+pub mod Store
+pub mod StoreSteps
