@@ -1,7 +1,7 @@
 //! Heads as they come on the wire, and what is read of them.
 
+use http_text::{HeadRead, read_head};
 use kn_base::Memory;
-use sendsms_http::{HeadRead, read_head};
 use std::alloc::Global;
 use std::process::Abort;
 use std::test::Fail;

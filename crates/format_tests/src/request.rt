@@ -1,7 +1,8 @@
 //! Requests as people write them, with what they ask for.
 
+use http_text::Head;
 use kn_base::{Charset, Memory, Octets};
-use sendsms_http::{Answer, Head, Spot, asked};
+use sendsms_http::{Answer, Spot, asked};
 use sms_record::{Address, Coding, Sms};
 use std::alloc::Global;
 use std::process::Abort;

@@ -1,7 +1,6 @@
 -- The message of a form that was taken has a record.
-use Rattle.std.proofs.Common.{◌≡◌, ℕ, ◌<◌, ◌≤◌, ◌^◌, ◌&&◌, Bool, true, false, not, List, length, All, refl, arith, inl, Result, Ok, Err, subst, if◌then◌else◌, get_or, ◌==◌}
+use Rattle.std.proofs.Common.{◌≡◌, ℕ, ◌<◌, ◌≤◌, ◌^◌, Bool, true, false, not, List, length, All, refl, arith, inl, Ok, Err, subst, if◌then◌else◌, get_or}
 use Rattle.std.specs.Char.{is_ascii_digit}
-use Rattle.std.specs.List.{list_all}
 use Rattle.std.proofs.lemmas.Bool.Decides.{nat_tests}
 use Rattle.std.proofs.lemmas.List.Elements.{All-weaker}
 use Rattle.std.proofs.lemmas.List.Sums.{AllPass-from_list_all}
@@ -9,10 +8,9 @@ use Rattle.std.proofs.lemmas.Bool.{and_parts, leb-true}
 use Rattle.sms_record.specs.Record.{IsSms, IsDigit}
 use Rattle.sendsms_http.specs.declared.answer.Answer.{Answer}
 use Rattle.sendsms_http.specs.declared.form.Form.{Form}
-use Rattle.sendsms_http.specs.declared.form.Variable.{Variable}
 use Rattle.sendsms_http.specs.declared.form.Variable.TheVariants.{Username, From, To, Text}
 use Rattle.sendsms_http.specs.declared.form.pairs.Pair.{Pair}
-use Rattle.sendsms_http.specs.Form.{is_authorized, is_form, is_held, is_once, variables, value, form_of, read_form, message, is_number, is_text, is_text_octet}
+use Rattle.sendsms_http.specs.Form.{is_authorized, is_form, is_held, variables, value, form_of, read_form, message, is_number, is_text, is_text_octet}
 
 digit_says : (octet : ℕ) → is_ascii_digit octet ≡ true → IsDigit octet
 digit_says octet h = grind (arith, nat_tests)

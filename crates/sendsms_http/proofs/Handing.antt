@@ -1,12 +1,11 @@
 -- What a request asks for may be handed to a store.
-use Rattle.std.proofs.Common.{◌≡◌, ℕ, ◌+◌, ◌<◌, ◌≤◌, ◌^◌, Bool, true, false, List, [], ◌∷◌, ◌++◌, length, All, Option, Some, None, refl, ap, sym, ◌∙◌, arith, length-append, sum_by, lit<, lit≤}
-use Rattle.std.specs.Int.{w16, w32, w64, to_be_bytes}
+use Rattle.std.proofs.Common.{◌≡◌, ℕ, ◌+◌, ◌<◌, ◌≤◌, ◌^◌, List, [], ◌∷◌, ◌++◌, length, All, refl, arith, length-append}
 use Rattle.std.proofs.lemmas.List.Elements.{All-head}
 use Rattle.sms_record.specs.declared.address.Address.{Address}
 use Rattle.sms_record.specs.declared.address.Address.TheVariants.{Number, Text}
 use Rattle.sms_record.specs.declared.sms.Sms.{Sms}
 use Rattle.sms_record.specs.Record.{IsAddress, IsSms, address, short, long, marks, times, heading, names, contents, sms_octets}
-use Rattle.sms_record.specs.Entry.{IsAccept, accept_size}
+use Rattle.sms_record.specs.Entry.{accept_size}
 use Rattle.sendsms_http.specs.Acceptor.{MayBeHanded}
 
 length-address : (a : Address) → IsAddress a → length (address a) ≤ 66

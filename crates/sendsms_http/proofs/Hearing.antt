@@ -1,14 +1,13 @@
 -- Hearing octets in several takes.
-use Rattle.std.proofs.Common.{◌≡◌, ◌≢◌, ℕ, ◌+◌, ◌≤◌, Bool, true, false, List, [], ◌∷◌, ◌++◌, length, take, map, refl, ap, sym, ◌∙◌, subst, arith, append_assoc, length-append}
+use Rattle.std.proofs.Common.{◌≡◌, ◌≢◌, ℕ, ◌+◌, ◌≤◌, true, false, List, [], ◌∷◌, ◌++◌, length, take, map, refl, ap, sym, ◌∙◌, subst, arith, append_assoc, length-append}
 use Rattle.std.specs.List.{concat}
 use Rattle.std.proofs.lemmas.List.{append-nil, length-take, map-append}
 use Rattle.std.proofs.lemmas.List.Folds.{concat-append}
-use Rattle.kn_base.specs.declared.piece.Piece.{Piece}
 use Rattle.kn_base.specs.declared.piece.Piece.TheVariants.{Heard}
-use Rattle.kn_base.specs.Course.{Course, with_more, Hears, Ends, IsQuiet}
+use Rattle.kn_base.specs.Course.{Course, with_more, Hears, Ends}
 use Rattle.kn_base.proofs.Talks.{with_more-with_more, with_more-nil}
-use Rattle.sendsms_http.specs.Head.{head_limit, NeedsMore}
-use Rattle.sendsms_http.specs.Session.{AreNeeded, IsHeard}
+use Rattle.http_text.specs.Head.{head_limit, NeedsMore}
+use Rattle.sendsms_http.specs.Session.{AreNeeded}
 use Rattle.sendsms_http.specs.SessionSteps.{Listens}
 
 -- before the first take nothing was heard

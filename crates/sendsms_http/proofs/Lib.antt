@@ -1,10 +1,6 @@
-pub mod AnswerLemmas
-pub mod Fields
 pub mod FormLemmas
 pub mod Handing
-pub mod HeadLemmas
 pub mod Hearing
-pub mod LineCounts
 pub mod RequestLemmas
 pub mod Requests
 pub mod SessionLemmas

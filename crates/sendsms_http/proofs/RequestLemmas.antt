@@ -5,10 +5,10 @@ use Rattle.sendsms_http.specs.declared.answer.Answer.{Answer}
 use Rattle.sendsms_http.specs.declared.answer.Answer.TheVariants.{BadRequest, OutOfMemory}
 use Rattle.sendsms_http.specs.declared.answer.spot.Spot.TheVariants.{NotBuilt}
 use Rattle.sendsms_http.specs.declared.form.Form.{Form}
-use Rattle.sendsms_http.specs.declared.head.Head.{Head}
+use Rattle.http_text.specs.declared.head.Head.{Head}
 use Rattle.sendsms_http.specs.Form.{pairs, read_form, message}
 use Rattle.sendsms_http.specs.Request.{asked, parts, is_plain_get, is_served}
-use Rattle.sendsms_http.specs.Target.{query, is_sendsms, sendsms_query}
+use Rattle.sendsms_http.specs.Target.{is_sendsms, sendsms_query}
 
 not_served : (head : Head) (now : ℕ) → is_served head ≡ false → asked head now ≡ Err (BadRequest NotBuilt)
 unfolding asked

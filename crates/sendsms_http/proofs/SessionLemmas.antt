@@ -1,27 +1,22 @@
 -- A session, put together from what was heard, what it came to and what was said.
-use Rattle.std.proofs.Common.{◌≡◌, ◌≢◌, ◌⊎◌, inl, inr, ℕ, ◌≤◌, Bool, true, false, ◌||◌, List, [], ◌∷◌, ◌++◌, length, take, map, All, Option, Some, None, Result, Ok, Err, refl, ap, sym, ◌∙◌, subst, arith}
-use Rattle.std.specs.List.{concat}
+use Rattle.std.proofs.Common.{◌≡◌, ◌≢◌, inl, inr, ℕ, ◌≤◌, Bool, true, false, ◌||◌, List, [], ◌∷◌, take, map, Option, Some, None, refl, ap, sym, ◌∙◌, subst, arith}
 use Rattle.std.proofs.lemmas.List.{append-nil}
 use Rattle.std.proofs.lemmas.List.Elements.{All-nil, All-cons, All-head}
-use Rattle.kn_base.specs.declared.piece.Piece.{Piece}
 use Rattle.kn_base.specs.declared.piece.Piece.TheVariants.{Heard}
 use Rattle.kn_base.specs.Count.{Counts, CountsFailure, Rose}
 use Rattle.kn_base.specs.Course.{Course, with_more, Fails, IsQuiet}
-use Rattle.kn_base.specs.Talk.{said_of, heard_of, SaysAll, SaysFront}
+use Rattle.kn_base.specs.Talk.{said_of, SaysAll, SaysFront}
 use Rattle.kn_base.proofs.Talks.{with_more-with_more}
-use Rattle.sms_record.specs.declared.sms.Sms.{Sms}
 use Rattle.sendsms_http.specs.declared.answer.Answer.{Answer}
 use Rattle.sendsms_http.specs.declared.answer.Answer.TheVariants.{BadRequest, OutOfMemory}
 use Rattle.sendsms_http.specs.declared.answer.spot.Spot.TheVariants.{NotBuilt}
 use Rattle.sendsms_http.specs.declared.http_end.HttpEnd.{HttpEnd}
 use Rattle.sendsms_http.specs.declared.http_end.HttpEnd.TheVariants.{End, Fault, Quiet, Memory}
-use Rattle.sendsms_http.specs.declared.head.Head.{Head}
-use Rattle.sendsms_http.specs.declared.reply.Reply.{Reply}
-use Rattle.sendsms_http.specs.declared.reply.Refusal.{Refusal}
+use Rattle.http_text.specs.declared.head.Head.{Head}
 use Rattle.sendsms_http.specs.Answer.{reply_text}
 use Rattle.sendsms_http.specs.Acceptor.{Deed, CountsFaults, IsFaultCounted, IsSpared}
-use Rattle.sendsms_http.specs.Head.{NeedsMore}
-use Rattle.sendsms_http.specs.Session.{IsHeadHeard, IsNoRequest, Answers, SaysSo, IsSilence, HttpTalk, AddsAll, Talks, Serves, NoneFell, IsCaused, IsCutShort}
+use Rattle.http_text.specs.Head.{NeedsMore}
+use Rattle.sendsms_http.specs.Session.{IsHeadHeard, IsNoRequest, Answers, SaysSo, IsSilence, AddsAll, Talks, Serves, NoneFell, IsCaused, IsCutShort}
 use Rattle.sendsms_http.specs.SessionSteps.{IsFailure, Stops, Listens, Says, RequestComesTo}
 
 -- ---- counts

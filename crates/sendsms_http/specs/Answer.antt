@@ -1,6 +1,6 @@
--- The text of each answer over HTTP (RFC 9112 4 and 6).
-use Rattle.std.specs.Prelude.{ℕ, Bool, List, [], ◌∷◌, ◌++◌, length, codes, if◌then◌else◌}
-use Rattle.std.specs.Fmt.{decimal}
+-- What each answer says over HTTP.
+use Rattle.std.specs.Prelude.{ℕ, Bool, List, ◌++◌, codes}
+use Rattle.http_text.specs.Response.{response_text}
 use Rattle.sendsms_http.specs.declared.answer.Answer.{Answer}
 use Rattle.sendsms_http.specs.declared.answer.Answer.TheVariants.{Accepted, Queued, BadRequest, Unauthorized, NotRoutable, Unavailable, OutOfMemory}
 use Rattle.sendsms_http.specs.declared.answer.spot.Spot.{Spot}
@@ -25,20 +25,6 @@ row NotRoutable = record { status = codes "403 Forbidden"; body = codes "Not rou
 row Unavailable = record { status = codes "503 Service Unavailable"; body = codes "Temporal failure, try again later." }
 row OutOfMemory = record { status = codes "500 Internal Server Error"; body = codes "Out of memory." }
 
--- the end of a line
-abbrev pub crlf : List ℕ
-crlf = 13 ∷ 10 ∷ []
-
--- whether the connection closes behind an answer (RFC 9112 9.6)
-abbrev pub connection : Bool → List ℕ
-connection close = if close then codes "close" else codes "keep-alive"
-
--- The octets of an answer: the status line, three fields, an empty line and the body. close says that the connection closes.
-unfoldable pub reply_text : Answer → Bool → List ℕ
-reply_text answer close =
-    codes "HTTP/1.1 " ++ (row answer).status ++ crlf
-    ++ codes "Content-Type: text/plain" ++ crlf
-    ++ codes "Content-Length: " ++ decimal (length (row answer).body) ++ crlf
-    ++ codes "Connection: " ++ connection close ++ crlf
-    ++ crlf
-    ++ (row answer).body
+-- the octets of an answer. close says that the connection closes
+abbrev pub reply_text : Answer → Bool → List ℕ
+reply_text answer close = response_text (row answer).status (row answer).body close

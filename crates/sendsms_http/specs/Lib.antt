@@ -1,8 +1,6 @@
 pub mod Acceptor
 pub mod Answer
 pub mod Form
-pub mod Head
-pub mod HeadSteps
 pub mod Reply
 pub mod Request
 pub mod Session

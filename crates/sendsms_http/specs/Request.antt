@@ -5,7 +5,7 @@ use Rattle.sendsms_http.specs.declared.answer.Answer.{Answer}
 use Rattle.sendsms_http.specs.declared.answer.Answer.TheVariants.{BadRequest}
 use Rattle.sendsms_http.specs.declared.answer.spot.Spot.TheVariants.{NotBuilt}
 use Rattle.sendsms_http.specs.declared.form.Form.{Form}
-use Rattle.sendsms_http.specs.declared.head.Head.{Head}
+use Rattle.http_text.specs.declared.head.Head.{Head}
 use Rattle.sendsms_http.specs.Form.{pairs, read_form, message}
 use Rattle.sendsms_http.specs.Target.{query, is_sendsms}
 

@@ -11,14 +11,14 @@ use Rattle.sms_record.specs.declared.sms.Sms.{Sms}
 use Rattle.sendsms_http.specs.declared.answer.Answer.{Answer}
 use Rattle.sendsms_http.specs.declared.answer.Answer.TheVariants.{BadRequest, OutOfMemory}
 use Rattle.sendsms_http.specs.declared.answer.spot.Spot.TheVariants.{NotBuilt}
-use Rattle.sendsms_http.specs.declared.head.Head.{Head}
+use Rattle.http_text.specs.declared.head.Head.{Head}
 use Rattle.sendsms_http.specs.declared.http_end.HttpEnd.{HttpEnd}
 use Rattle.sendsms_http.specs.declared.http_end.HttpEnd.TheVariants.{End, Fault, Quiet, Memory}
 use Rattle.sendsms_http.specs.declared.reply.Reply.{Reply}
 use Rattle.sendsms_http.specs.declared.reply.Refusal.{Refusal}
 use Rattle.sendsms_http.specs.Acceptor.{Deed, CountsFaults}
 use Rattle.sendsms_http.specs.Answer.{reply_text}
-use Rattle.sendsms_http.specs.Head.{head_limit, Stands, NeverHas, NeedsMore, IsTooLong, head_of}
+use Rattle.http_text.specs.Head.{head_limit, Stands, NeverHas, NeedsMore, IsTooLong, head_of}
 use Rattle.sendsms_http.specs.Reply.{IsAccepted, answer_of}
 use Rattle.sendsms_http.specs.Request.{asked}
 

@@ -1,5 +1,5 @@
 -- The steps of a session: hearing up to a head, handing a message in, and saying an answer. No public clause cites these.
-use Rattle.std.specs.Prelude.{◌≡◌, ◌≢◌, ◌⊎◌, ℕ, Bool, true, false, ◌||◌, ◌<◌, List, [], ◌∷◌, length, map, Option, Some, None, Result, IfOk, ⊤}
+use Rattle.std.specs.Prelude.{◌≡◌, ◌≢◌, ◌⊎◌, ℕ, Bool, true, false, ◌||◌, List, [], ◌∷◌, map, Option, Some, None, Result, IfOk, ⊤}
 use Rattle.std.specs.List.{concat}
 use Rattle.kn_base.specs.declared.piece.Piece.{Piece}
 use Rattle.kn_base.specs.declared.piece.Piece.TheVariants as piece_is
@@ -8,9 +8,9 @@ use Rattle.kn_base.specs.Course.{Course, with_more}
 use Rattle.kn_base.specs.Talk.{said_of, heard_of}
 use Rattle.sms_record.specs.declared.sms.Sms.{Sms}
 use Rattle.sendsms_http.specs.declared.answer.Answer.{Answer}
-use Rattle.sendsms_http.specs.declared.head.Head.{Head}
-use Rattle.sendsms_http.specs.declared.head.read.HeadRead.{HeadRead}
-use Rattle.sendsms_http.specs.declared.head.read.HeadRead.TheVariants as read_is
+use Rattle.http_text.specs.declared.head.Head.{Head}
+use Rattle.http_text.specs.declared.head.read.HeadRead.{HeadRead}
+use Rattle.http_text.specs.declared.head.read.HeadRead.TheVariants as read_is
 use Rattle.sendsms_http.specs.declared.http_end.HttpEnd.{HttpEnd}
 use Rattle.sendsms_http.specs.declared.http_end.HttpEnd.TheVariants.{End, Fault, Quiet, Memory}
 use Rattle.sendsms_http.specs.declared.session.hearing.Listened.{Listened}
@@ -18,7 +18,7 @@ use Rattle.sendsms_http.specs.declared.session.hearing.Listened.TheVariants.{Req
 use Rattle.sendsms_http.specs.declared.reply.Reply.{Reply}
 use Rattle.sendsms_http.specs.declared.reply.Refusal.{Refusal}
 use Rattle.sendsms_http.specs.Acceptor.{Deed, CountsFaults}
-use Rattle.sendsms_http.specs.Head.{NeedsMore}
+use Rattle.http_text.specs.Head.{NeedsMore}
 use Rattle.sendsms_http.specs.Reply.{IsAccepted, answer_of}
 use Rattle.sendsms_http.specs.Request.{asked}
 use Rattle.sendsms_http.specs.Session.{IsHeard, IsHeadHeard, IsNoRequest, ComesTo, IsOutOfMemory, SaysSo, AddsAll, NoneFell, IsCaused}

@@ -1,14 +1,14 @@
 //! The answers that a requester can get, and what each says: one row an answer.
 
 ghost use Rattle.std.specs.Prelude.{◌≡◌, ◌≤◌, ◌+◌, [], ◌++◌, length};
+ghost use Rattle.kn_base.specs.Talk.{WritesAll};
 ghost use Rattle.sendsms_http.specs.Answer as spec;
 
 mod spot;
-mod write;
 
-use kn_base::Memory;
+use http_text::{Response, write_response};
+use kn_base::{Memory, Sink, Wrote};
 pub use spot::Spot;
-pub use write::write_answer;
 
 /// An answer over HTTP.
 #[derive(Clone, Copy)]
@@ -29,17 +29,19 @@ pub enum Answer {
     OutOfMemory,
 }
 
-/// What an answer says: its code with the reason (RFC 9110 15), and its body, which is a text and the name behind it.
-#[derive(Clone, Copy)]
-pub(crate) struct Row {
-    pub(crate) status: &'static [u8],
-    pub(crate) text: &'static [u8],
-    pub(crate) name: &'static [u8],
+/// Gives the text of an answer: the status line, the fields and the body. `close` says that the connection closes behind it. It takes
+/// no memory.
+///
+/// `Failed` with how many octets went out, where a give failed: a count of the sink rose.
+pub fn write_answer<S: Sink>(sink: &mut S, answer: Answer, close: bool) -> Wrote
+    ensures { WritesAll (spec.reply_text answer close) result (S.course sink.old) (S.course sink.new) }
+{
+    write_response(sink, answer.row(), close)
 }
 
 impl Answer {
     // What it says.
-    pub(crate) fn row(self) -> Row
+    fn row(self) -> Response
         ensures status { result.status.now ≡ (spec.row self).status }
         ensures body { result.text.now ++ result.name.now ≡ (spec.row self).body }
         ensures short_status { length result.status.now ≤ 32 }
@@ -48,7 +50,7 @@ impl Answer {
         match self {
             Answer::Accepted => plain(b"202 Accepted", b"0: Accepted for delivery"),
             Answer::Queued => plain(b"202 Accepted", b"3: Queued for later delivery"),
-            Answer::BadRequest(spot) => Row {
+            Answer::BadRequest(spot) => Response {
                 status: b"400 Bad Request",
                 text: b"Bad request: ",
                 name: spot.name(),
@@ -65,12 +67,12 @@ impl Answer {
 }
 
 // A row whose body ends with no name.
-fn plain(status: &'static [u8], text: &'static [u8]) -> Row
+fn plain(status: &'static [u8], text: &'static [u8]) -> Response
     ensures status { result.status.now ≡ status.now }
     ensures text { result.text.now ≡ text.now }
     ensures no_name { result.name.now ≡ [] }
 {
-    Row {
+    Response {
         status,
         text,
         name: b"",

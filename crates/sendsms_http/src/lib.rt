@@ -1,6 +1,6 @@
 //! Messages that are handed in over HTTP.
 //!
-//! A requester says a head (`Head`, read by `read_head`); what it asks is one message or a refusal
+//! A requester says a head (`Head` of `http_text`); what it asks is one message or a refusal
 //! (`asked`); the message is handed to a store (`Acceptor`), whose outcome (`Reply` or `Refusal`)
 //! decides the answer (`Answer`, given by `write_answer`).
 //!
@@ -13,7 +13,6 @@ mod acceptor;
 mod answer;
 mod credentials;
 mod form;
-mod head;
 mod http_end;
 mod reply;
 mod request;
@@ -22,7 +21,6 @@ mod target;
 
 pub use acceptor::Acceptor;
 pub use answer::{Answer, Spot, write_answer};
-pub use head::{HEAD_LIMIT, Head, HeadRead, LINE_LIMIT, read_head};
 pub use http_end::HttpEnd;
 pub use reply::{Refusal, Reply, answer_of};
 pub use request::asked;

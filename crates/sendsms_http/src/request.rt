@@ -6,7 +6,8 @@ ghost use Rattle.sendsms_http.specs.Request as spec;
 
 use crate::form::read_form;
 use crate::target::sendsms_query;
-use crate::{Answer, Head, Spot};
+use crate::{Answer, Spot};
+use http_text::Head;
 use kn_base::{Items, Memory};
 use sms_record::Sms;
 use std::alloc::Global;

@@ -9,8 +9,9 @@ ghost use Rattle.sendsms_http.specs.SessionSteps as spec;
 mod hearing;
 
 use crate::http_end::{HttpEnd, end_of_failure};
-use crate::{Acceptor, Answer, Head, Spot, answer_of, asked, write_answer};
+use crate::{Acceptor, Answer, Spot, answer_of, asked, write_answer};
 use hearing::{Listened, listen};
+use http_text::Head;
 use kn_base::{Clock, Peer, Sink, Wrote};
 use sms_record::Sms;
 use std::alloc::Global;

@@ -2,11 +2,11 @@
 
 ghost use Rattle.std.specs.Prelude.{◌≡◌, ◌<◌, ◌≤◌, false, IfNone, length};
 ghost use Rattle.kn_base.specs.Course.{Course};
-ghost use Rattle.sendsms_http.specs.Head.{head_limit, NeedsMore};
+ghost use Rattle.http_text.specs.Head.{head_limit, NeedsMore};
 ghost use Rattle.sendsms_http.specs.SessionSteps as spec;
 
-use crate::head::{HEAD_LIMIT, Head, HeadRead, read_head};
 use crate::http_end::{HttpEnd, end_of_failure};
+use http_text::{HEAD_LIMIT, Head, HeadRead, read_head};
 use kn_base::{Memory, Octets, Source, Take};
 use std::alloc::Global;
 

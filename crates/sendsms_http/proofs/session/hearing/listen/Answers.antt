@@ -1,8 +1,9 @@
 use Rattle.std.proofs.Common.{false, Some, subst, sym}
-use Rattle.sendsms_http.specs.Head.{NeedsMore}
+use Rattle.http_text.specs.Head.{NeedsMore}
 use Rattle.sendsms_http.specs.SessionSteps.{Listens, LooksAt}
 use Rattle.sendsms_http.proofs.Hearing.{Listens-nil}
-use Rattle.sendsms_http.proofs.Requests.{more_at_first, listens_so}
+use Rattle.http_text.proofs.FirstHead.{more_at_first}
+use Rattle.sendsms_http.proofs.Requests.{listens_so}
 use Rattle.sendsms_http.proofs.session.hearing.listen.Goals as goal
 
 pub loop-listened-init : goal.loop-listened-init

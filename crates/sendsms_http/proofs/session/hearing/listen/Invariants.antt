@@ -1,5 +1,5 @@
 use Rattle.std.proofs.Common.{◌-◌, false, length}
-use Rattle.sendsms_http.specs.Head.{head_limit, NeedsMore}
+use Rattle.http_text.specs.Head.{head_limit, NeedsMore}
 use Rattle.sendsms_http.specs.SessionSteps.{Listens}
 use Rattle.sendsms_http.proofs.session.hearing.listen.Given as goal
 

@@ -1,0 +1,5 @@
+pub mod Fields
+pub mod FirstHead
+pub mod HeadLemmas
+pub mod LineCounts
+pub mod ResponseLemmas

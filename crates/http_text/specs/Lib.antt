@@ -1,0 +1,3 @@
+pub mod Head
+pub mod HeadSteps
+pub mod Response

@@ -1,0 +1,15 @@
+//! The text of HTTP: the head of a request, and a response.
+//!
+//! `read_head` reads the head at the front of octets (`Head`, `HeadRead`), and looks at the first `HEAD_LIMIT` of them alone;
+//! a head has at most `LINE_LIMIT` header lines. `write_response` gives the text of a `Response`: status line, fields and body.
+//! What a request asks for, and which response answers it, is known above.
+//!
+//! The one contract: a head is read exactly where one stands, refused exactly where none can come, and more octets are asked
+//! for only where they can matter; what is given of a response is its text, or a front of it where giving failed.
+#![tactic(auto)]
+
+mod head;
+mod response;
+
+pub use head::{HEAD_LIMIT, Head, HeadRead, LINE_LIMIT, read_head};
+pub use response::{Response, write_response};

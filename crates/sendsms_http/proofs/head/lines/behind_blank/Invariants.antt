@@ -1,7 +1,0 @@
-use Rattle.std.proofs.Common.{◌≡◌, drop}
-use Rattle.sendsms_http.specs.HeadSteps.{behind_blank}
-use Rattle.sendsms_http.proofs.head.lines.behind_blank.Given as goal
-
--- the octets so far are newlines
-abbrev pub invariant-loop-i : goal.invariant-loop-i
-invariant-loop-i l = behind_blank l.octets ≡ behind_blank (drop l.i l.octets)

@@ -1,8 +1,0 @@
-use Rattle.std.proofs.Common.{◌≡◌, ◌+◌, drop}
-use Rattle.sendsms_http.specs.Head.{line_limit}
-use Rattle.sendsms_http.specs.HeadSteps.{behind_blank, begins_after}
-use Rattle.sendsms_http.proofs.head.lines.has_too_many_lines.Given as goal
-
--- what is left of the lines decides
-abbrev pub invariant-loop-octet : goal.invariant-loop-octet
-invariant-loop-octet l = begins_after (line_limit + 1) (behind_blank l.octets) ≡ begins_after l.left (drop l.octet-index l.lines)
