@@ -7,21 +7,21 @@ use Rattle.kn_base.specs.Course.{Course}
 use Rattle.store_journal.specs.Area.{stands}
 use Rattle.store_journal.specs.Disk.{Areas}
 use Rattle.gate_store.specs.Accepts.{IsForeign, IsLeftAlone}
+use Rattle.gate_store.specs.Store.{IsOpened, IsUnopened}
+use Rattle.gate_store.specs.declared.store.Store as store
+use Rattle.gate_store.specs.declared.store_fault.StoreFault.{StoreFault}
+use Rattle.gate_store.specs.declared.store_fault.StoreFault.TheVariants.{Foreign, Disk, Memory}
 use Rattle.boxes_main.specs.Configuration.{HasText, IsRefused}
 use Rattle.boxes_main.specs.Door.{Asks, IsConfigured, IsServed, ComesTo}
 use Rattle.boxes_main.specs.DoorSteps.{Opens, ServesOne, Ends}
 use Rattle.boxes_main.specs.Failure.{status_of}
 use Rattle.boxes_main.specs.House.{Rooms, Stock, MakesOne, MakesFor, IsToldWord}
-use Rattle.gate_store.specs.Store.{IsOpened, IsUnopened}
 use Rattle.boxes_main.specs.Worker.{Worker}
 use Rattle.boxes_main.specs.declared.configuration.TheConstants.{BASE, STORE_FILE}
 use Rattle.boxes_main.specs.declared.configuration.ConfigurationFault.{ConfigurationFault}
 use Rattle.boxes_main.specs.declared.failure.Failure.{Failure}
 use Rattle.boxes_main.specs.declared.failure.Failure.TheVariants.{Usage, Configuration, Store, Session}
 use Rattle.boxes_main.specs.declared.session.SessionFault.{SessionFault}
-use Rattle.gate_store.specs.declared.store.Store as store
-use Rattle.gate_store.specs.declared.store_fault.StoreFault.{StoreFault}
-use Rattle.gate_store.specs.declared.store_fault.StoreFault.TheVariants.{Foreign, Disk, Memory}
 
 -- a usage is told exactly where the words name no configuration
 pub usage_by : {S : Type 0} (files : S → Option (List (List ℕ × List ℕ))) (calls faults : S → ℕ) (name : Option (List ℕ)) (old new : S) (failure : Option Failure)
