@@ -8,7 +8,8 @@ use Rattle.kn_base.specs.Course.{Course, with_more, Hears, Ends}
 use Rattle.kn_base.proofs.Talks.{with_more-with_more, with_more-nil}
 use Rattle.http_text.specs.Head.{head_limit, NeedsMore}
 use Rattle.sendsms_http.specs.Session.{AreNeeded}
-use Rattle.sendsms_http.specs.SessionSteps.{Listens}
+use Rattle.sendsms_http.specs.SessionSteps.{Listens, ListensSo, at_end}
+use Rattle.sendsms_http.specs.declared.session.hearing.Listened.{Listened}
 
 -- before the first take nothing was heard
 pub Listens-nil : (c : Course) → Listens [] false c c
@@ -63,6 +64,13 @@ Listens-end heard a b c l e = record {
       ∙ ap (λ (d : Course). record d { counts = record (d.counts) { ended = true } }) l.after
       ∙ ap (λ (d : Course). record a { counts = record (a.counts) { ended = true }; left = d.left; talk = with_more a.talk (map Heard l.takes) }) (sym e.same);
 }
+
+-- what came of listening, where the input ended
+pub listens_end : (heard : List ℕ) (listened : Listened) (a b c : Course) → listened ≡ at_end heard → Listens heard false a b → NeedsMore heard
+    → Ends b c → ListensSo listened a c
+listens_end [] listened a b c is l more e = subst (λ came. ListensSo came a c) (sym is) (Listens-end [] a b c l e)
+listens_end (octet ∷ octets) listened a b c is l more e =
+    subst (λ came. ListensSo came a c) (sym is) (octet ∷ octets, true, (λ none. cc), Listens-end (octet ∷ octets) a b c l e, more)
 
 -- a take gives some octets
 pub some_taken : (heard buffer : List ℕ) (n : ℕ) (b c : Course) → Hears buffer n b c → heard ++ take n buffer ≢ []

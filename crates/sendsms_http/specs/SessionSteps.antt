@@ -63,6 +63,11 @@ abbrev pub TakesMore : Option Listened → List ℕ → Course → Course → Ty
 TakesMore None heard old new = (heard ≢ []) × Listens heard false old new
 TakesMore (Some listened) heard old new = ListensSo listened old new
 
+-- what came of listening where the input ended behind octets of which more were needed
+abbrev pub at_end : List ℕ → Listened
+at_end [] = Nothing
+at_end (octet ∷ octets) = NoRequest
+
 -- what a reading of a head means for listening: more is needed, or it has come to its end
 abbrev pub listened_of : HeadRead → Option Listened
 listened_of (read_is.Whole head len) = Some (Request head)

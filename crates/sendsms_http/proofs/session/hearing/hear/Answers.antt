@@ -1,8 +1,7 @@
 -- What one take does to what was heard before it.
-use Rattle.std.proofs.Common.{ℕ, ◌++◌, take, true, refl, sym, ◌∙◌, arith}
-use Rattle.std.proofs.lemmas.Bool.{false≢true}
+use Rattle.std.proofs.Common.{ℕ, ◌++◌, take, refl, arith}
 use Rattle.std.proofs.lemmas.List.{length-take}
-use Rattle.sendsms_http.proofs.Hearing.{heard_more, Listens-end}
+use Rattle.sendsms_http.proofs.Hearing.{heard_more, listens_end}
 use Rattle.sendsms_http.proofs.session.hearing.hear.Goals as goal
 
 pub returns-in-Ok-clause-so : goal.returns-in-Ok-clause-so
@@ -21,13 +20,7 @@ returns-in-Err-clause-so g c = λ start listens.
     refl listens c.requires hears (omega (arith, c.take.auto.into, length-take {A = ℕ})) in
     (octets, more.0, more.1)
 
-pub returns-else-is_empty-clause-so : goal.returns-else-is_empty-clause-so
-returns-else-is_empty-clause-so g c = λ start listens.
+pub returns-in-End-clause-so : goal.returns-in-End-clause-so
+returns-in-End-clause-so g c = λ start listens.
     let course = g.S.Meter.course in
-    let heard = c.args.heard.now in (
-      heard,
-      true,
-      λ none. false≢true (sym c.if-is_empty.false ∙ c.is_empty.ensures.1 none),
-      Listens-end heard start (course c.args.source.now) (course c.take.new.self) listens c.in-End.ensures.so,
-      c.requires,
-    )
+    listens_end c.args.heard.now c.at_end.result start (course c.args.source.now) (course c.take.new.self) c.at_end.ensures listens c.requires c.in-End.ensures.so
