@@ -1,5 +1,5 @@
 -- Hearing octets in several takes.
-use Rattle.std.proofs.Common.{◌≡◌, ◌≢◌, ℕ, ◌+◌, ◌≤◌, true, false, List, [], ◌∷◌, ◌++◌, length, take, map, refl, ap, sym, ◌∙◌, subst, arith, append_assoc, length-append}
+use Rattle.std.proofs.Common.{◌≡◌, ◌≢◌, ℕ, ◌+◌, ◌<◌, ◌≤◌, true, false, List, [], ◌∷◌, ◌++◌, length, take, map, refl, ap, sym, ◌∙◌, subst, arith, append_assoc, length-append}
 use Rattle.std.specs.List.{concat}
 use Rattle.std.proofs.lemmas.List.{append-nil, length-take, map-append}
 use Rattle.std.proofs.lemmas.List.Folds.{concat-append}
@@ -79,6 +79,17 @@ some_taken heard buffer n b c h = λ none.
     let within : n ≤ length buffer = h.within in
     let empty : length (heard ++ take n buffer) ≡ 0 = ap length none in
     absurd (omega (arith, simp length-append at empty, length-take n buffer))
+
+-- what was heard and then more is within the limit, and more than before
+pub grown : (heard buffer : List ℕ) (n : ℕ) (all : List ℕ) (b c : Course) → all ≡ heard ++ take n buffer → Hears buffer n b c
+    → length heard + length buffer ≤ head_limit → (length all ≤ head_limit) × (length heard < length all)
+grown heard buffer n all b c e h room =
+    let some : 1 ≤ n = h.some in
+    let within : n ≤ length buffer = h.within in
+    let size : length all ≡ length (heard ++ take n buffer) = ap length e in (
+      omega (arith, size, length-append heard (take n buffer), length-take n buffer),
+      omega (arith, size, length-append heard (take n buffer), length-take n buffer),
+    )
 
 -- what was heard and then more, as it is kept: some octets, in takes that were needed
 pub heard_more : (heard buffer : List ℕ) (n : ℕ) (all : List ℕ) (a b c : Course) → all ≡ heard ++ take n buffer → Listens heard false a b
