@@ -16,9 +16,9 @@ use Rattle.sendsms_http.specs.declared.http_end.HttpEnd.TheVariants.{End, Fault,
 use Rattle.http_text.specs.declared.head.Head.{Head}
 use Rattle.sendsms_http.specs.Answer.{reply_text}
 use Rattle.sendsms_http.specs.Acceptor.{Deed, CountsFaults, IsFaultCounted, IsSpared}
-use Rattle.http_text.specs.Head.{NeedsMore}
+use Rattle.http_text.specs.Head.{BeginsWith, NeedsMore}
 use Rattle.sendsms_http.specs.Request.{asked}
-use Rattle.sendsms_http.specs.Session.{IsHeadHeard, IsNoRequest, ComesTo, Answers, SaysSo, IsSilence, AddsAll, Talks, Serves, NoneFell, IsCaused, IsCutShort}
+use Rattle.sendsms_http.specs.Session.{IsNoRequest, ComesTo, Answers, SaysSo, IsSilence, AddsAll, Talks, Serves, NoneFell, IsCaused, IsCutShort}
 use Rattle.sendsms_http.specs.SessionSteps.{IsFailure, Stops, Listens, Says, HandsIn, RequestComesTo}
 
 -- ---- counts
@@ -245,7 +245,7 @@ module _ {S : Type 0} (leads : S → List Deed → S → Type 0) (faults : S →
 -- a request was heard and answered
 pub serves_request : {S : Type 0} (leads : S → List Deed → S → Type 0) (faults : S → ℕ) (store later : S) (a b c : Course)
     (told tells : Option (List ℕ)) (end : HttpEnd) (heard : List ℕ) (head : Head) (answer : Answer) → Listens heard false a b
-    → IsHeadHeard heard head → RequestComesTo leads faults store later told tells head answer → Says end (reply_text answer true) b c
+    → BeginsWith heard head → RequestComesTo leads faults store later told tells head answer → Says end (reply_text answer true) b c
     → Serves leads faults store later a c told tells end
 serves_request leads faults store later a b c told tells end heard head answer l stands r says = record {
   readings = r.now ∷ [];
