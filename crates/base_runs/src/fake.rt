@@ -2,6 +2,8 @@
 
 ghost use Rattle.std.specs.Prelude.{◌≤◌};
 
+use kn_base::read_decimal;
+use line_cases::cut_at;
 use std::alloc::Allocator;
 use std::cell::Cell;
 use std::fmt::{Display, Write};
@@ -53,41 +55,37 @@ impl fmt::Write for Wire {
     }
 }
 
-/// A runtime over tables, in which `None` is a fault.
+/// A runtime over words between blanks, in which `!` is a fault. A read gives a word. A write takes at most as many octets as
+/// a word says. A reading of the clock gives the seconds since 1970 that a word says. Behind the words the input ends, and
+/// all else fails.
 #[derive(Drop)]
-pub struct Fake {
-    /// What each read gives. Behind the table the input ends.
-    pub reads: &'static [Option<&'static str>],
-    /// How many octets each write takes at most. Behind the table each write fails.
-    pub writes: &'static [Option<usize>],
-    /// What each reading of the clock gives, in seconds since 1970. Behind the table each fails.
-    pub times: &'static [Option<u64>],
-    /// How many writes and readings there were.
-    pub calls: Cell<usize>,
+pub struct Fake<'a> {
+    /// The words that reads give.
+    reads: &'a [u8],
+    /// The words that writes and readings use up.
+    script: Cell<&'a [u8]>,
     /// How many seconds it rested.
     pub rested: Cell<u64>,
     /// What went through.
     pub wire: Cell<Wire>,
 }
 
-impl Fake {
+impl<'a> Fake<'a> {
     /// A runtime of which nothing was asked yet.
-    pub fn new() -> Fake {
+    pub fn new(script: &'a [u8]) -> Fake<'a> {
         Fake {
-            reads: &[],
-            writes: &[],
-            times: &[],
-            calls: Cell::new(0),
+            reads: script,
+            script: Cell::new(script),
             rested: Cell::new(0),
             wire: Cell::new(Wire::new()),
         }
     }
 
-    /// The number of the next write or reading.
-    fn next_call(&self) -> usize {
-        let call = self.calls.get();
-        self.calls.set(call.saturating_add(1));
-        call
+    /// The number of the next word, where it is no fault.
+    fn next_number(&self) -> Option<u64> {
+        let (word, behind) = cut_at(self.script.get(), b' ');
+        self.script.set(behind);
+        read_decimal(word, u64::MAX)
     }
 }
 
@@ -96,7 +94,7 @@ fn fault() -> io::Error {
     io::Error::from(ErrorKind::Other)
 }
 
-impl Print for Fake {
+impl<'a> Print for Fake<'a> {
     fn print<D: Display + Drop>(&self, _value: D) -> io::Result<()> {
         Err(fault())
     }
@@ -110,11 +108,11 @@ impl Print for Fake {
     }
 
     fn write_some(&self, bytes: &[u8]) -> io::Result<usize> {
-        let Some(Some(most)) = self.writes.get(self.next_call()) else {
+        let Some(most) = self.next_number() else {
             return Err(fault());
         };
         let mut wire = self.wire.get();
-        let count = bytes.len().min(*most);
+        let count = bytes.len().min(most as usize);
         for octet in &bytes[..count] {
             wire.push(*octet);
         }
@@ -123,11 +121,11 @@ impl Print for Fake {
     }
 }
 
-impl Eprint for Fake {
+impl<'a> Eprint for Fake<'a> {
     fn eprint<D: Display + Drop>(&self, value: D) -> io::Result<()> {
-        let Some(Some(_)) = self.writes.get(self.next_call()) else {
+        if self.next_number().is_none() {
             return Err(fault());
-        };
+        }
         let mut wire = self.wire.get();
         let written = write!(wire, "{value}");
         self.wire.set(wire);
@@ -139,15 +137,15 @@ impl Eprint for Fake {
     }
 }
 
-impl Clock for Fake {
+impl<'a> Clock for Fake<'a> {
     fn monotonic(&self) -> io::Result<Duration> {
         Err(fault())
     }
 
     fn since_1970(&self) -> io::Result<Duration> {
-        match self.times.get(self.next_call()) {
-            Some(Some(seconds)) => Ok(Duration::from_secs(*seconds)),
-            _ => Err(fault()),
+        match self.next_number() {
+            Some(seconds) => Ok(Duration::from_secs(seconds)),
+            None => Err(fault()),
         }
     }
 
@@ -156,29 +154,26 @@ impl Clock for Fake {
     }
 }
 
-/// The reads of a `Fake`, in their order.
+/// The reads of a `Fake` that are left.
 #[derive(Drop)]
-pub struct FakeReader {
-    reads: &'static [Option<&'static str>],
-    next: usize,
+pub struct FakeReader<'a> {
+    rest: &'a [u8],
 }
 
-impl Read for FakeReader {
+impl<'a> Read for FakeReader<'a> {
     fn read(&mut self, buf: &mut [u8]) -> io::Result<usize> {
-        let Some(read) = self.reads.get(self.next) else {
-            return Ok(0);
-        };
-        self.next += 1;
-        let Some(text) = read else {
+        let (word, behind) = cut_at(self.rest, b' ');
+        self.rest = behind;
+        if word == b"!".as_slice() {
             return Err(fault());
-        };
-        let count = text.len().min(buf.len());
-        buf[..count].copy_from_slice(&text.as_bytes()[..count]);
+        }
+        let count = word.len().min(buf.len());
+        buf[..count].copy_from_slice(&word[..count]);
         Ok(count)
     }
 }
 
-impl BufRead for FakeReader {
+impl<'a> BufRead for FakeReader<'a> {
     fn fill_buf(&mut self) -> io::Result<&[u8]> {
         Err(fault())
     }
@@ -186,21 +181,18 @@ impl BufRead for FakeReader {
     fn consume(&mut self, _amount: usize) {}
 }
 
-impl Input for Fake {
-    type Reader = FakeReader;
+impl<'a> Input for Fake<'a> {
+    type Reader = FakeReader<'a>;
 
     fn read_line<A: Allocator + Clone>(&self, _buf: &mut String<A>) -> io::Result<usize> {
         Err(fault())
     }
 
-    fn lines<A: Allocator>(&self, alloc: A) -> Lines<FakeReader, A> {
+    fn lines<A: Allocator>(&self, alloc: A) -> Lines<FakeReader<'a>, A> {
         self.reader().lines(alloc)
     }
 
-    fn reader(&self) -> FakeReader {
-        FakeReader {
-            reads: self.reads,
-            next: 0,
-        }
+    fn reader(&self) -> FakeReader<'a> {
+        FakeReader { rest: self.reads }
     }
 }

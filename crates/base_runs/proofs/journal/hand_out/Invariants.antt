@@ -1,6 +1,6 @@
 use Rattle.std.proofs.Common.{length}
 use Rattle.store_journal.specs.Journal.{IsKept, left}
-use Rattle.base_tests.proofs.journal.hand_out.Given as goal
+use Rattle.base_runs.proofs.journal.hand_out.Given as goal
 
 abbrev pub invariant-payloads : goal.invariant-payloads
 invariant-payloads g l = IsKept g.D.Disk.tells g.D.Disk.contents l.journal
