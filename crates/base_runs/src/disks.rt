@@ -97,11 +97,22 @@ pub fn put_disk_case<M: Disks>(
 ) -> Result<(), Memory> {
     let (name, acts) = cut_item(text);
     let name = octets_of(alloc, name)?;
+    put_named_disk(made, alloc, kind, (name.as_slice(), acts), report)
+}
+
+/// What becomes of the disk of a name.
+fn put_named_disk<M: Disks>(
+    made: &M,
+    alloc: Global,
+    kind: &[u8],
+    (name, acts): (&[u8], &[u8]),
+    report: &mut Octets,
+) -> Result<(), Memory> {
     if kind == b"disk".as_slice() {
-        put_disk(made, alloc, name.as_slice(), acts, report)
+        put_disk(made, alloc, name, acts, report)
     } else if kind == b"held".as_slice() {
-        put_held(made, alloc, name.as_slice(), acts, report)
+        put_held(made, alloc, name, acts, report)
     } else {
-        put_plain(made, alloc, name.as_slice(), report)
+        put_plain(made, alloc, name, report)
     }
 }

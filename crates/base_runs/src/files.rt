@@ -60,36 +60,51 @@ fn put_done(report: &mut Octets, done: bool) -> Result<(), Memory> {
     report.extend_from_slice(if done { b"done" } else { b"failed" })
 }
 
-/// Changes what is there.
-fn put_changed<R: Files<File = File> + Alloc>(
-    rt: &R,
-    kind: &[u8],
-    path: &str,
-    target: &str,
-    report: &mut Octets,
-) -> Result<(), Memory> {
-    let done = if kind == b"folder".as_slice() {
-        make_folder(rt, path)
-    } else if kind == b"remove".as_slice() {
-        remove_folder(rt, path)
-    } else {
-        make_link(rt, path, target)
-    };
-    put_done(report, done)
+/// What is done with a path.
+#[derive(Clone, Copy)]
+enum Deed {
+    Folder,
+    Remove,
+    Write,
+    Link,
+    Read,
+    Mode,
 }
 
-/// Looks at what is there.
-fn put_seen<R: Files<File = File> + Alloc>(
+/// The deeds by their words.
+static DEEDS: [(&str, Deed); 5] = [
+    ("folder", Deed::Folder),
+    ("remove", Deed::Remove),
+    ("write", Deed::Write),
+    ("link", Deed::Link),
+    ("read", Deed::Read),
+];
+
+/// The deed of a word, and `Mode` of another.
+fn deed_of(word: &[u8]) -> Deed {
+    for (name, deed) in &DEEDS {
+        if word == name.as_bytes() {
+            return *deed;
+        }
+    }
+    Deed::Mode
+}
+
+/// A text that is a path.
+fn path_of(text: &[u8]) -> &str {
+    str::from_utf8(text).unwrap_or("")
+}
+
+/// Makes a file of octets, and puts last whether it was made.
+fn put_written<R: Files<File = File>>(
     rt: &R,
-    kind: &[u8],
+    alloc: Global,
     path: &str,
+    content: &[u8],
     report: &mut Octets,
 ) -> Result<(), Memory> {
-    if kind == b"read".as_slice() {
-        put_content(rt, path, report)
-    } else {
-        put_mode(report, mode_of(rt, path))
-    }
+    let content = octets_of(alloc, content)?;
+    put_done(report, write_file(rt, path, content.as_slice()))
 }
 
 /// `file folder PATH` makes a folder, `file remove PATH` removes it, `file write PATH OCTETS` makes a file and `file link PATH TARGET`
@@ -100,21 +115,15 @@ pub fn put_file_case<R: Files<File = File> + Alloc>(
     text: &[u8],
     report: &mut Octets,
 ) -> Result<(), Memory> {
-    let (kind, text) = cut_at(text, b' ');
+    let (word, text) = cut_at(text, b' ');
     let (path, content) = cut_at(text, b' ');
-    let path = str::from_utf8(path).unwrap_or("");
-    if kind == b"write".as_slice() {
-        let content = octets_of(alloc, content)?;
-        put_done(report, write_file(rt, path, content.as_slice()))
-    } else if kind == b"read".as_slice() || kind == b"mode".as_slice() {
-        put_seen(rt, kind, path, report)
-    } else {
-        put_changed(
-            rt,
-            kind,
-            path,
-            str::from_utf8(content).unwrap_or(""),
-            report,
-        )
+    let path = path_of(path);
+    match deed_of(word) {
+        Deed::Folder => put_done(report, make_folder(rt, path)),
+        Deed::Remove => put_done(report, remove_folder(rt, path)),
+        Deed::Write => put_written(rt, alloc, path, content, report),
+        Deed::Link => put_done(report, make_link(rt, path, path_of(content))),
+        Deed::Read => put_content(rt, path, report),
+        Deed::Mode => put_mode(report, mode_of(rt, path)),
     }
 }

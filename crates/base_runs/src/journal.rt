@@ -221,22 +221,48 @@ fn put_payloads<D: Disk + Drop>(
     Ok(disk)
 }
 
+/// What is done with the store on a disk.
+#[derive(Clone, Copy)]
+enum Act {
+    Open,
+    Many,
+    List,
+    Length,
+    Append,
+}
+
+/// The acts by their words.
+static ACTS: [(&str, Act); 4] = [
+    ("open", Act::Open),
+    ("many", Act::Many),
+    ("list", Act::List),
+    ("length", Act::Length),
+];
+
+/// The act of a word, and `Append` of another.
+fn act_of(word: &[u8]) -> Act {
+    for (name, act) in &ACTS {
+        if word == name.as_bytes() {
+            return *act;
+        }
+    }
+    Act::Append
+}
+
 /// `open`, `list`, `length`, `many` (200 payloads of 66 octets), and else a payload that is appended: each opens the store and closes
 /// it again.
 fn put_act<D: Disk + Drop>(
     alloc: Global,
     disk: D,
-    act: &[u8],
+    word: &[u8],
     report: &mut Octets,
 ) -> Result<D, Memory> {
-    if act == b"open".as_slice() {
-        put_open(alloc, disk, report)
-    } else if act == b"many".as_slice() {
-        put_many(alloc, disk, 200, report)
-    } else if act == b"list".as_slice() || act == b"length".as_slice() {
-        put_payloads(alloc, disk, act == b"length".as_slice(), report)
-    } else {
-        put_append(alloc, disk, act, report)
+    match act_of(word) {
+        Act::Open => put_open(alloc, disk, report),
+        Act::Many => put_many(alloc, disk, 200, report),
+        Act::List => put_payloads(alloc, disk, false, report),
+        Act::Length => put_payloads(alloc, disk, true, report),
+        Act::Append => put_append(alloc, disk, word, report),
     }
 }
 
@@ -310,20 +336,24 @@ fn put_sizes(report: &mut Octets, disk: &MemDisk) -> Result<(), Memory> {
     Ok(())
 }
 
+/// Puts last what the areas hold, and how many calls were made.
+fn put_calls(report: &mut Octets, disk: &MemDisk) -> Result<(), Memory> {
+    put_areas(report, disk)?;
+    put_named(report, b"calls ", disk.calls())
+}
+
 /// What is shown of a disk: what its areas hold (`areas`), and how many calls were made too (`calls`), or how much they hold (`sizes`),
 /// or `nothing`.
 fn put_disk(report: &mut Octets, disk: &MemDisk, shown: &[u8]) -> Result<(), Memory> {
-    if shown == b"sizes".as_slice() {
-        return put_sizes(report, disk);
+    if shown == b"areas".as_slice() {
+        put_areas(report, disk)
+    } else if shown == b"calls".as_slice() {
+        put_calls(report, disk)
+    } else if shown == b"sizes".as_slice() {
+        put_sizes(report, disk)
+    } else {
+        Ok(())
     }
-    if shown == b"nothing".as_slice() {
-        return Ok(());
-    }
-    put_areas(report, disk)?;
-    if shown == b"calls".as_slice() {
-        put_named(report, b"calls ", disk.calls())?;
-    }
-    Ok(())
 }
 
 /// `store A | B | PICK | ACTS .. | SHOWN`: acts on a disk in memory with these areas, and what is shown of it in the end.
