@@ -380,7 +380,7 @@ fn put_failing(
         Some(_) => put_ran(report, ran)?,
     }
     put_named(report, b"faults ", disk.faults())?;
-    put_named(report, b" | calls ", disk.calls().saturating_sub(call))?;
+    put_named(report, b" | calls ", disk.calls().wrapping_sub(call))?;
     if ran.in_append {
         report.extend_from_slice(b" | gate ")?;
         write_decimal(
