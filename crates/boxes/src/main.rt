@@ -29,23 +29,27 @@ fn read_words<R: Env + AllocGlobal>(rt: &R) -> Result<Vec<Octets>, Memory> {
     Ok(words)
 }
 
-/// Runs the command that the words name, and gives the status. Where there is no memory for the words, it says so.
-fn run<R: Runtime + Files<File = File> + AllocGlobal + Copy>(rt: R) -> u8 {
-    // A standard stream that was closed leaves its descriptor to the next file that is opened, which would be one of the
-    // store, and the answer would be written into it. So these three stand open first.
-    let _first = File::open(&rt, NULL);
-    let _second = File::open(&rt, NULL);
-    let _third = File::open(&rt, NULL);
-
-    let mut house = HostHouse::new(rt);
-    match read_words(&rt) {
-        Ok(words) => door(rt.alloc(), &words, &mut house).status,
+/// Runs the command that the words name over a house, and gives the status. Where there is no memory for the words, it says so.
+fn run_in<R: Env + AllocGlobal, H: House>(rt: &R, house: &mut H) -> u8 {
+    match read_words(rt) {
+        Ok(words) => door(rt.alloc(), &words, house).status,
         Err(Memory) => {
             let failure = Some(Failure::Configuration(ConfigurationFault::Memory));
             tell(house.errors(), failure);
             status(failure)
         }
     }
+}
+
+/// Runs the command over the machine's house.
+///
+/// A standard stream that was closed leaves its descriptor to the next file that is opened, which would be one of the store,
+/// and the answer would be written into it. So three files stand open first.
+fn run<R: Runtime + Files<File = File> + AllocGlobal + Copy>(rt: R) -> u8 {
+    let _first = File::open(&rt, NULL);
+    let _second = File::open(&rt, NULL);
+    let _third = File::open(&rt, NULL);
+    run_in(&rt, &mut HostHouse::new(rt))
 }
 
 fn main(rt: HostRuntime) -> ExitCode {

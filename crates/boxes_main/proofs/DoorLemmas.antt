@@ -1,25 +1,37 @@
 -- The stages of `door`, put together.
-use Rattle.std.proofs.Common.{◌≡◌, ℕ, Bool, true, false, List, [], Option, Some, None, ap, sym, ◌∙◌, subst}
-use Rattle.std.specs.Prelude.{option_map}
+use Rattle.std.proofs.Common.{◌≡◌, ℕ, Bool, true, false, List, [], Option, Some, None, refl, ap, sym, ◌∙◌, subst}
+use Rattle.std.specs.Prelude.{◌↔◌, option_map, IsSomeAnd}
 use Rattle.std.specs.Bool.{OnTrue}
 use Rattle.kn_base.specs.Count.{Rose}
 use Rattle.kn_base.specs.Course.{Course}
 use Rattle.store_journal.specs.Area.{stands}
 use Rattle.store_disk.specs.Disk.{Areas}
 use Rattle.gate_store.specs.Accepts.{IsForeign, IsLeftAlone}
+use Rattle.gate_store.specs.Store.{IsOpened, IsUnopened}
+use Rattle.gate_store.specs.declared.store.Store as store
+use Rattle.gate_store.specs.declared.store_fault.StoreFault.{StoreFault}
+use Rattle.gate_store.specs.declared.store_fault.StoreFault.TheVariants.{Foreign, Disk, Memory}
+use Rattle.boxes_main.specs.Configuration.{HasText, IsRefused}
 use Rattle.boxes_main.specs.Door.{Asks, IsConfigured, IsServed, ComesTo}
 use Rattle.boxes_main.specs.DoorSteps.{Opens, ServesOne, Ends}
 use Rattle.boxes_main.specs.Failure.{status_of}
 use Rattle.boxes_main.specs.House.{Rooms, Stock, MakesOne, MakesFor, IsToldWord}
-use Rattle.gate_store.specs.Store.{IsOpened, IsUnopened}
 use Rattle.boxes_main.specs.Worker.{Worker}
-use Rattle.boxes_main.specs.declared.configuration.TheConstants.{STORE_FILE}
+use Rattle.boxes_main.specs.declared.configuration.TheConstants.{BASE, STORE_FILE}
+use Rattle.boxes_main.specs.declared.configuration.ConfigurationFault.{ConfigurationFault}
 use Rattle.boxes_main.specs.declared.failure.Failure.{Failure}
-use Rattle.boxes_main.specs.declared.failure.Failure.TheVariants.{Store, Session}
+use Rattle.boxes_main.specs.declared.failure.Failure.TheVariants.{Usage, Configuration, Store, Session}
 use Rattle.boxes_main.specs.declared.session.SessionFault.{SessionFault}
-use Rattle.gate_store.specs.declared.store.Store as store
-use Rattle.gate_store.specs.declared.store_fault.StoreFault.{StoreFault}
-use Rattle.gate_store.specs.declared.store_fault.StoreFault.TheVariants.{Foreign, Disk, Memory}
+
+-- a usage is told exactly where the words name no configuration
+pub usage_by : {S : Type 0} (files : S → Option (List (List ℕ × List ℕ))) (calls faults : S → ℕ) (name : Option (List ℕ)) (old new : S) (failure : Option Failure)
+    → Asks files calls faults name old new failure → (failure ≡ Some Usage) ↔ (name ≡ None)
+usage_by files calls faults name old new (Some Usage) asks = (λ _. asks.0, λ _. refl)
+usage_by files calls faults name old new (Some (Configuration fault)) asks =
+    (λ is. absurd cc, λ none. absurd (subst (λ n. IsSomeAnd n (λ name. IsRefused (files old) name BASE.now (faults old) (faults new) fault)) none asks.1))
+usage_by files calls faults name old new (Some (Store fault)) asks = (λ is. absurd cc, λ none. absurd (subst (λ n. IsSomeAnd n (λ name. HasText (files old) name BASE.now)) none asks.1))
+usage_by files calls faults name old new (Some (Session fault)) asks = (λ is. absurd cc, λ none. absurd (subst (λ n. IsSomeAnd n (λ name. HasText (files old) name BASE.now)) none asks.1))
+usage_by files calls faults name old new None asks = (λ is. absurd cc, λ none. absurd (subst (λ n. IsSomeAnd n (λ name. HasText (files old) name BASE.now)) none asks.1))
 
 -- the birth that was told before a disk was made
 pub told_before : (old new : Stock) (birth : ℕ) → MakesOne old new → IsToldWord new.word birth → IsToldWord old.word birth
@@ -51,6 +63,41 @@ module _ {D : Type 0} (tells : Bool) (contents : D → Areas) (faults : D → �
       by_told : (t : Bool) → OnTrue t (areas ≡ stated) → OnTrue t (IsLeftAlone areas (contents disk) birth) → OnTrue t (IsLeftAlone stated (contents disk) birth)
       by_told true reads is = subst (λ (x : Areas). IsLeftAlone x (contents disk) birth) reads is
       by_told false reads is = tt
+
+module _
+    {V S E D C : Type 0} (course : V → Course)
+    (files : S → Option (List (List ℕ × List ℕ))) (calls shelf_faults : S → ℕ)
+    (tells : Bool) (contents : D → Areas) (faults : D → ℕ) (readings_of : C → Option (List ℕ))
+    (name : List ℕ) (old new : Rooms V S E) (before after : Stock) (shelf : S)
+    (status : ℕ) (failure : Option Failure) (disk : Option D) (workers : List (Worker C)) where
+  -- no disk was made, since the configuration was refused
+  pub ends_refused : new ≡ record old { shelf = shelf } → after ≡ before → status ≡ status_of failure → disk ≡ None → workers ≡ []
+      → (fault : ConfigurationFault) → failure ≡ Some (Configuration fault) → Asks files calls shelf_faults (Some name) old.shelf shelf (Some (Configuration fault))
+      → Ends course files calls shelf_faults tells contents faults readings_of (Some name) old new before after status failure disk workers
+  ends_refused rooms same right none alone fault failed asks = record {
+    silent = ap (λ r. r.errors) rooms;
+    right = right;
+    asks = subst (λ f. Asks files calls shelf_faults (Some name) old.shelf new.shelf f) (sym failed)
+        (subst (λ s. Asks files calls shelf_faults (Some name) old.shelf s (Some (Configuration fault))) (sym (ap (λ r. r.shelf) rooms)) asks);
+    made = subst (λ (d : Option D). MakesFor d before after) (sym none) same;
+    comes_to = subst (λ f. ComesTo tells contents faults readings_of course (before.disks STORE_FILE.now) before.word old.visitor new.visitor workers disk f) (sym failed)
+        (record { unvisited = ap (λ r. r.visitor) rooms; no_worker = alone }, none);
+  }
+
+  -- or since memory was wanting
+  pub ends_starved : new ≡ record old { shelf = shelf } → after ≡ before → status ≡ status_of failure → disk ≡ None → workers ≡ []
+      → failure ≡ Some (Store Memory) → IsConfigured files calls shelf_faults (Some name) old.shelf shelf
+      → Ends course files calls shelf_faults tells contents faults readings_of (Some name) old new before after status failure disk workers
+  ends_starved rooms same right none alone failed configured = record {
+    silent = ap (λ r. r.errors) rooms;
+    right = right;
+    asks = subst (λ f. Asks files calls shelf_faults (Some name) old.shelf new.shelf f) (sym failed)
+        (subst (λ s. IsConfigured files calls shelf_faults (Some name) old.shelf s) (sym (ap (λ r. r.shelf) rooms)) configured);
+    made = subst (λ (d : Option D). MakesFor d before after) (sym none) same;
+    comes_to = subst (λ f. ComesTo tells contents faults readings_of course (before.disks STORE_FILE.now) before.word old.visitor new.visitor workers disk f) (sym failed)
+        (subst (λ d. ComesTo tells contents faults readings_of course (before.disks STORE_FILE.now) before.word old.visitor new.visitor workers d (Some (Store Memory))) (sym none)
+        (record { unvisited = ap (λ r. r.visitor) rooms; no_worker = alone }, refl));
+  }
 
 module _
     {V S E D C : Type 0} (course : V → Course)

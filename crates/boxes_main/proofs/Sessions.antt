@@ -12,19 +12,19 @@ use Rattle.store_disk.specs.Disk.{Areas}
 use Rattle.sms_record.specs.declared.entry.accept.Accept.{Accept}
 use Rattle.gate_store.specs.Accepts.{StandsFor}
 use Rattle.gate_store.specs.Deeds.{Leads, done_of}
+use Rattle.gate_store.specs.Store.{IsStore, IsOpened, disk_in, is_store_broken}
+use Rattle.gate_store.specs.declared.store.Store.{Store}
+use Rattle.gate_store.proofs.Commits.{reasoned, spared, unfailed, gained, broke}
+use Rattle.gate_store.proofs.Opening.{told_weaker}
 use Rattle.boxes_main.specs.Door.{Commits, IsSession, fault_by}
 use Rattle.boxes_main.specs.DoorSteps.{ServesOne}
 use Rattle.boxes_main.specs.Failure.{status_of}
 use Rattle.boxes_main.specs.House.{Rooms, Stock, IsToldWord}
-use Rattle.gate_store.specs.Store.{IsStore, IsOpened, disk_in, is_store_broken}
 use Rattle.boxes_main.specs.Worker.{Worker}
 use Rattle.boxes_main.specs.declared.command_end.Role.TheVariants as role_is
 use Rattle.boxes_main.specs.declared.command_end.SessionEnd.TheVariants as ended_as
 use Rattle.boxes_main.specs.declared.failure.Failure.{Failure}
 use Rattle.boxes_main.specs.declared.failure.Failure.TheVariants.{Session}
-use Rattle.gate_store.specs.declared.store.Store.{Store}
-use Rattle.gate_store.proofs.Commits.{reasoned, spared, unfailed, gained, broke}
-use Rattle.gate_store.proofs.Opening.{told_weaker}
 
 -- a clock that wasn't read before was read so and no more
 new_readings : (readings : List ℕ) (old new : Option (List ℕ)) → IfSome old (λ so_far. so_far ≡ []) → AddsAll readings old new → IfSome new (λ all. all ≡ readings)

@@ -12,17 +12,17 @@ use Rattle.store_disk.specs.Disk.{Areas}
 use Rattle.sms_record.specs.declared.entry.accept.Accept.{Accept}
 use Rattle.sms_record.specs.Entry.{IsAccept}
 use Rattle.gate_store.specs.Accepts.{StandsFor}
-use Rattle.boxes_main.specs.Configuration.{HasText, IsRefused}
 use Rattle.gate_store.specs.Deeds.{done_of, AreReasoned}
-use Rattle.boxes_main.specs.House.{IsToldWord}
 use Rattle.gate_store.specs.Store.{IsUnopened}
+use Rattle.gate_store.specs.declared.store_fault.StoreFault.TheVariants as store_is
+use Rattle.boxes_main.specs.Configuration.{HasText, IsRefused}
+use Rattle.boxes_main.specs.House.{IsToldWord}
 use Rattle.boxes_main.specs.Worker.{Worker, IsHttpWorker}
 use Rattle.boxes_main.specs.declared.configuration.TheConstants.{BASE}
 use Rattle.boxes_main.specs.declared.failure.Failure.{Failure}
 use Rattle.boxes_main.specs.declared.failure.Failure.TheVariants.{Usage, Configuration, Store, Session}
 use Rattle.boxes_main.specs.declared.session.SessionFault.{SessionFault}
 use Rattle.boxes_main.specs.declared.session.SessionFault.TheVariants.{Disk, Connection, Memory}
-use Rattle.gate_store.specs.declared.store_fault.StoreFault.TheVariants as store_is
 
 module _ {S : Type 0} (files : S → Option (List (List ℕ × List ℕ))) (calls faults : S → ℕ) where
   -- the shelf was asked once for the file that the words name, and something holds of its name

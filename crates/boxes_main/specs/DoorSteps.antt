@@ -3,16 +3,16 @@ use Rattle.std.specs.Prelude.{◌≡◌, ℕ, ◌<◌, Bool, List, [], Option, o
 use Rattle.std.specs.declared.alloc.Global.{Global}
 use Rattle.kn_base.specs.Course.{Course}
 use Rattle.store_disk.specs.Disk.{Areas}
+use Rattle.gate_store.specs.Store.{IsOpened}
+use Rattle.gate_store.specs.declared.store.Store.{Store}
 use Rattle.boxes_main.specs.Door.{Asks, IsConfigured, IsServed, ComesTo}
 use Rattle.boxes_main.specs.Failure.{status_of}
 use Rattle.boxes_main.specs.House.{Rooms, Stock, MakesOne, MakesFor, IsToldWord}
-use Rattle.gate_store.specs.Store.{IsOpened}
 use Rattle.boxes_main.specs.Worker.{Worker}
 use Rattle.boxes_main.specs.declared.configuration.TheConstants.{STORE_FILE}
 use Rattle.boxes_main.specs.declared.failure.Failure.{Failure}
 use Rattle.boxes_main.specs.declared.failure.Failure.TheVariants.{Session}
 use Rattle.boxes_main.specs.declared.session.SessionFault.{SessionFault}
-use Rattle.gate_store.specs.declared.store.Store.{Store}
 
 -- Room for one item in each of two vectors that have none.
 pub record HasRoom {A B : Type 0} (ends : Vec A Global) (workers : Vec B Global) : Type 0 where

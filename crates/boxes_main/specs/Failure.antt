@@ -3,8 +3,8 @@ use Rattle.std.specs.Prelude.{◌≡◌, ℕ, List, ◌∷◌, [], ◌++◌, cod
 use Rattle.kn_base.specs.Course.{Course}
 use Rattle.kn_base.specs.Talk.{WritesAll}
 use Rattle.kn_base.specs.declared.writing.Wrote.{Wrote}
-use Rattle.boxes_main.specs.declared.configuration.ConfigurationFault.TheVariants as configuration_is
 use Rattle.gate_store.specs.declared.store_fault.StoreFault.TheVariants as store_is
+use Rattle.boxes_main.specs.declared.configuration.ConfigurationFault.TheVariants as configuration_is
 use Rattle.boxes_main.specs.declared.session.SessionFault.TheVariants as session_is
 use Rattle.boxes_main.specs.declared.failure.Failure.{Failure}
 use Rattle.boxes_main.specs.declared.failure.Failure.TheVariants.{Usage, Configuration, Store, Session}

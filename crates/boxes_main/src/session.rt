@@ -1,9 +1,9 @@
 //! One session over an open store: it is served, and the store is closed.
 
 ghost use Rattle.std.specs.Prelude.{◌≡◌, [], ◌∷◌, Some, IfOk, map, option_map};
+ghost use Rattle.gate_store.specs.Store.{IsOpen};
 ghost use Rattle.boxes_main.specs.Door.{fault_by};
 ghost use Rattle.boxes_main.specs.DoorSteps.{HasRoom, ServesOne};
-ghost use Rattle.gate_store.specs.Store.{IsOpen};
 ghost use Rattle.boxes_main.specs.Worker.{worker_of};
 
 use crate::failure::status;

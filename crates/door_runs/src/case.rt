@@ -1,8 +1,8 @@
 //! A case: what it changes of the worked request.
 
-use crate::script::{cut_at, unpadded};
 use boxes_main::BASE;
 use kn_base::read_decimal;
+use line_cases::{cut_at, cut_item};
 
 /// The worked request, with escapes.
 const HELLO: &[u8] =
@@ -60,54 +60,31 @@ const WORKED: Case<'static> = Case {
     runs: Runs::Once,
 };
 
-/// The case with one item more.
-fn with_item<'a>(case: Case<'a>, item: &'a [u8]) -> Case<'a> {
+/// Adds an item that is about what comes from outside.
+fn add_item<'a>(case: &mut Case<'a>, item: &'a [u8]) {
     let (name, value) = cut_at(item, b' ');
     match name {
-        b"words" => Case {
-            words: value,
-            ..case
-        },
-        b"file" => Case {
-            file: Some(value),
-            ..case
-        },
-        b"no" => Case { file: None, ..case },
-        b"shelf" => Case {
-            shelf_fails: true,
-            ..case
-        },
-        b"take" => Case {
-            request: value,
-            ..case
-        },
-        b"in" => Case {
-            size: last_number(value),
-            ..case
-        },
-        b"quiet" => Case {
-            quiet: true,
-            ..case
-        },
-        b"a" => Case { a: value, ..case },
-        b"b" => Case { b: value, ..case },
-        b"pick" => Case {
-            pick: value,
-            ..case
-        },
-        b"shown" => Case {
-            shown: true,
-            ..case
-        },
-        b"again" => Case {
-            runs: Runs::Again,
-            ..case
-        },
-        b"each" => Case {
-            runs: runs_of(value),
-            ..case
-        },
-        _ => case,
+        b"words" => case.words = value,
+        b"file" => case.file = Some(value),
+        b"no" => case.file = None,
+        b"shelf" => case.shelf_fails = true,
+        b"take" => case.request = value,
+        b"in" => case.size = last_number(value),
+        b"quiet" => case.quiet = true,
+        _ => add_disk_item(case, name, value),
+    }
+}
+
+/// Adds an item that is about the disk and the runs.
+fn add_disk_item<'a>(case: &mut Case<'a>, name: &[u8], value: &'a [u8]) {
+    match name {
+        b"a" => case.a = value,
+        b"b" => case.b = value,
+        b"pick" => case.pick = value,
+        b"shown" => case.shown = true,
+        b"again" => case.runs = Runs::Again,
+        b"each" => case.runs = runs_of(value),
+        _ => {}
     }
 }
 
@@ -132,9 +109,12 @@ pub fn read_case(line: &[u8]) -> Case {
     let mut case = WORKED;
     let mut rest = line;
     for _ in 0..line.len() {
-        let (item, behind) = cut_at(rest, b'|');
+        if rest.is_empty() {
+            break;
+        }
+        let (item, behind) = cut_item(rest);
         rest = behind;
-        case = with_item(case, unpadded(item));
+        add_item(&mut case, item);
     }
     case
 }

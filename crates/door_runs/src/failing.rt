@@ -1,42 +1,30 @@
 //! Cases in which each call of a kind fails in turn, until a run has none to fail.
 
 use crate::case::Case;
-use crate::outcome::{Outcome, put_disk, put_outcome, put_status, put_told};
-use crate::run::{disk_of, run, visitor_of};
+use crate::outcome::{put_outcome, put_status, put_told};
+use crate::run::run_once;
 use kn_base::{Memory, Octets};
+use line_cases::put_new;
 use std::alloc::Global;
-use store_disk::MemDisk;
 
 /// More calls than any run makes.
 const MOST_CALLS: u64 = 1_000;
 
-/// Reports a line, unless it is the last one once more.
-fn put_new(report: &mut Octets, last: &mut Octets, line: Octets) -> Result<(), Memory> {
-    if line.as_slice() != last.as_slice() {
-        report.extend_from_slice(line.as_slice())?;
-        report.push(b'\n')?;
-    }
-    *last = line;
-    Ok(())
+/// The line of a run in which a call of the disk fails, and whether one did.
+fn disk_line(alloc: Global, case: Case, call: u64) -> Result<(Octets, bool), Memory> {
+    let outcome = run_once(alloc, case, None, Some(call))?;
+    let mut line = Octets::new(alloc);
+    put_outcome(&mut line, &outcome)?;
+    Ok((line, outcome.disk_failed))
 }
 
-fn has_failed(disk: &Option<MemDisk>) -> bool {
-    match disk {
-        Some(disk) => disk.faults() > 0,
-        None => false,
-    }
-}
-
-/// Runs a case once for each call of its disk, which fails.
+/// Runs a case once for each call of its disk, which fails. Lines that are the same one after the other are one.
 pub fn run_each_disk_call(alloc: Global, case: Case, report: &mut Octets) -> Result<(), Memory> {
     let mut last = Octets::new(alloc);
     for call in 0..MOST_CALLS {
-        let visitor = visitor_of(alloc, case, None)?;
-        let outcome = run(alloc, case, visitor, disk_of(alloc, case, Some(call))?)?;
-        let mut line = Octets::new(alloc);
-        put_outcome(&mut line, &outcome)?;
+        let (line, has_failed) = disk_line(alloc, case, call)?;
         put_new(report, &mut last, line)?;
-        if !has_failed(&outcome.disk) {
+        if !has_failed {
             break;
         }
     }
@@ -56,34 +44,34 @@ fn front_of(said: &[u8], before: usize, whole: &[u8]) -> &'static [u8] {
     }
 }
 
-/// The line of a run, where said is compared with the whole answer.
-fn line_of(
+/// The line of a run in which a call of the visitor fails, where said is compared with the whole answer, and whether one did. It
+/// takes how much was said in the run before, and leaves how much was in this one.
+fn visitor_line(
     alloc: Global,
-    outcome: &Outcome,
-    before: usize,
+    case: Case,
+    call: u64,
     whole: &[u8],
-) -> Result<Octets, Memory> {
+    before: &mut usize,
+) -> Result<(Octets, bool), Memory> {
+    let outcome = run_once(alloc, case, Some(call), None)?;
     let mut line = Octets::new(alloc);
-    put_status(&mut line, outcome)?;
-    line.extend_from_slice(front_of(outcome.said.as_slice(), before, whole))?;
-    put_told(&mut line, outcome)?;
-    put_disk(&mut line, &outcome.disk, false)?;
-    Ok(line)
+    put_status(&mut line, &outcome)?;
+    line.extend_from_slice(front_of(outcome.said.as_slice(), *before, whole))?;
+    put_told(&mut line, &outcome)?;
+    line.extend_from_slice(outcome.areas.as_slice())?;
+    *before = outcome.said.len();
+    Ok((line, outcome.visitor_failed))
 }
 
-/// Runs a case once for each call of its visitor, which fails.
+/// Runs a case once for each call of its visitor, which fails. Lines that are the same one after the other are one.
 pub fn run_each_visitor_call(alloc: Global, case: Case, report: &mut Octets) -> Result<(), Memory> {
-    let visitor = visitor_of(alloc, case, None)?;
-    let whole = run(alloc, case, visitor, disk_of(alloc, case, None)?)?.said;
+    let whole = run_once(alloc, case, None, None)?.said;
     let mut before = 0;
     let mut last = Octets::new(alloc);
     for call in 0..MOST_CALLS {
-        let visitor = visitor_of(alloc, case, Some(call))?;
-        let outcome = run(alloc, case, visitor, disk_of(alloc, case, None)?)?;
-        let line = line_of(alloc, &outcome, before, whole.as_slice())?;
+        let (line, has_failed) = visitor_line(alloc, case, call, whole.as_slice(), &mut before)?;
         put_new(report, &mut last, line)?;
-        before = outcome.said.len();
-        if !outcome.visitor_failed {
+        if !has_failed {
             break;
         }
     }

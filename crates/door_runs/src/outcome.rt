@@ -1,7 +1,7 @@
 //! What a run of `door` came to, as far as its user sees it.
 
-use crate::escape::put_text;
-use kn_base::{Memory, Octets, Past, Piece, write_decimal, write_hex};
+use kn_base::{Memory, Octets, Past, Peer, Piece, write_decimal, write_hex};
+use line_cases::{put_named, put_text};
 use std::alloc::Global;
 use store_disk::{Area, MemDisk};
 
@@ -15,21 +15,45 @@ pub struct Outcome {
     pub visitor_failed: bool,
     /// What was written to standard error.
     pub told: Octets,
-    pub disk: Option<MemDisk>,
+    /// The disk's areas, as they are reported.
+    pub areas: Octets,
+    /// Whether a call of the disk failed.
+    pub disk_failed: bool,
 }
 
-/// The octets that were said in a talk, and whether a call failed in it.
-pub fn said(alloc: Global, past: Option<Past>) -> Result<(Octets, bool), Memory> {
-    let mut all = Octets::new(alloc);
-    let Some(past) = past else {
-        return Ok((all, false));
-    };
-    for piece in past.pieces.as_slice() {
-        if let Piece::Said(octets) = piece {
-            all.extend_from_slice(octets.as_slice())?;
+impl Outcome {
+    /// Nothing was done yet.
+    pub fn new(alloc: Global) -> Outcome {
+        Outcome {
+            status: 0,
+            said: Octets::new(alloc),
+            visitor_failed: false,
+            told: Octets::new(alloc),
+            areas: Octets::new(alloc),
+            disk_failed: false,
         }
     }
-    Ok((all, past.faults > 0))
+}
+
+/// Puts the octets that were said in a talk last.
+fn put_pieces(into: &mut Octets, past: &Past) -> Result<(), Memory> {
+    for piece in past.pieces.as_slice() {
+        if let Piece::Said(octets) = piece {
+            into.extend_from_slice(octets.as_slice())?;
+        }
+    }
+    Ok(())
+}
+
+/// Puts the octets that were said to a peer last. Whether a call failed.
+pub fn put_said<P: Peer>(into: &mut Octets, peer: P) -> Result<bool, Memory> {
+    match peer.part() {
+        Some(past) => {
+            put_pieces(into, &past)?;
+            Ok(past.faults > 0)
+        }
+        None => Ok(false),
+    }
 }
 
 /// Puts the status, and what was said and told.
@@ -41,8 +65,7 @@ pub fn put_outcome(into: &mut Octets, outcome: &Outcome) -> Result<(), Memory> {
 
 /// Puts the status.
 pub fn put_status(into: &mut Octets, outcome: &Outcome) -> Result<(), Memory> {
-    into.extend_from_slice(b"    ")?;
-    write_decimal(into, u64::from(outcome.status))
+    put_named(into, b"    ", u64::from(outcome.status))
 }
 
 /// Puts what was written to standard error.
@@ -59,11 +82,8 @@ fn put_part(into: &mut Octets, name: &[u8], octets: &[u8]) -> Result<(), Memory>
     put_text(into, octets)
 }
 
-/// Puts how many octets each area of the disk holds, and where they are shown, these octets.
-pub fn put_disk(into: &mut Octets, disk: &Option<MemDisk>, shown: bool) -> Result<(), Memory> {
-    let Some(disk) = disk else {
-        return into.extend_from_slice(b" | no disk");
-    };
+/// Puts how many octets each area of a disk holds, and where they are shown, these octets.
+pub fn put_disk(into: &mut Octets, disk: &MemDisk, shown: bool) -> Result<(), Memory> {
     into.extend_from_slice(b" | areas")?;
     for area in [Area::A, Area::B, Area::Pick] {
         into.push(b' ')?;

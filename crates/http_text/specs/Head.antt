@@ -87,6 +87,10 @@ head_from method minor target fields = record {
 abbrev pub head_of : RequestHead → Head
 head_of h = head_from h.method h.minor h.target (map name_and_value h.fields)
 
+-- a head stands at the front of these octets, and says this
+abbrev pub BeginsWith : List ℕ → Head → Type 0
+BeginsWith octets head = (h : RequestHead) × (rest : List ℕ) × Stands octets h rest × (head ≡ head_of h)
+
 -- a head stands at the front of these octets, says this, and has so many octets
 abbrev pub IsWhole : List ℕ → Head → ℕ → Type 0
 IsWhole octets head len =

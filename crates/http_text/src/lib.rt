@@ -4,8 +4,9 @@
 //! a head has at most `LINE_LIMIT` header lines. `write_response` gives the text of a `Response`: status line, fields and body.
 //! What a request asks for, and which response answers it, is known above.
 //!
-//! The one contract: a head is read exactly where one stands, refused exactly where none can come, and more octets are asked
-//! for only where they can matter; what is given of a response is its text, or a front of it where giving failed.
+//! The one contract: a head is read exactly where one stands, octets are refused only where no head can come of them, and
+//! more are asked for only where one can come or they end within a target; what is given of a response is its text, or a
+//! front of it where giving failed.
 #![tactic(auto)]
 
 mod head;

@@ -1,5 +1,5 @@
 -- Hearing octets in several takes.
-use Rattle.std.proofs.Common.{◌≡◌, ◌≢◌, ℕ, ◌+◌, ◌≤◌, true, false, List, [], ◌∷◌, ◌++◌, length, take, map, refl, ap, sym, ◌∙◌, subst, arith, append_assoc, length-append}
+use Rattle.std.proofs.Common.{◌≡◌, ◌≢◌, ℕ, ◌+◌, ◌<◌, ◌≤◌, true, false, List, [], ◌∷◌, ◌++◌, length, take, map, refl, ap, sym, ◌∙◌, subst, arith, append_assoc, length-append}
 use Rattle.std.specs.List.{concat}
 use Rattle.std.proofs.lemmas.List.{append-nil, length-take, map-append}
 use Rattle.std.proofs.lemmas.List.Folds.{concat-append}
@@ -8,7 +8,8 @@ use Rattle.kn_base.specs.Course.{Course, with_more, Hears, Ends}
 use Rattle.kn_base.proofs.Talks.{with_more-with_more, with_more-nil}
 use Rattle.http_text.specs.Head.{head_limit, NeedsMore}
 use Rattle.sendsms_http.specs.Session.{AreNeeded}
-use Rattle.sendsms_http.specs.SessionSteps.{Listens}
+use Rattle.sendsms_http.specs.SessionSteps.{Listens, ListensSo, at_end}
+use Rattle.sendsms_http.specs.declared.session.hearing.Listened.{Listened}
 
 -- before the first take nothing was heard
 pub Listens-nil : (c : Course) → Listens [] false c c
@@ -64,6 +65,13 @@ Listens-end heard a b c l e = record {
       ∙ ap (λ (d : Course). record a { counts = record (a.counts) { ended = true }; left = d.left; talk = with_more a.talk (map Heard l.takes) }) (sym e.same);
 }
 
+-- what came of listening, where the input ended
+pub listens_end : (heard : List ℕ) (listened : Listened) (a b c : Course) → listened ≡ at_end heard → Listens heard false a b → NeedsMore heard
+    → Ends b c → ListensSo listened a c
+listens_end [] listened a b c is l more e = subst (λ came. ListensSo came a c) (sym is) (Listens-end [] a b c l e)
+listens_end (octet ∷ octets) listened a b c is l more e =
+    subst (λ came. ListensSo came a c) (sym is) (octet ∷ octets, true, (λ none. cc), Listens-end (octet ∷ octets) a b c l e, more)
+
 -- a take gives some octets
 pub some_taken : (heard buffer : List ℕ) (n : ℕ) (b c : Course) → Hears buffer n b c → heard ++ take n buffer ≢ []
 some_taken heard buffer n b c h = λ none.
@@ -71,6 +79,17 @@ some_taken heard buffer n b c h = λ none.
     let within : n ≤ length buffer = h.within in
     let empty : length (heard ++ take n buffer) ≡ 0 = ap length none in
     absurd (omega (arith, simp length-append at empty, length-take n buffer))
+
+-- what was heard and then more is within the limit, and more than before
+pub grown : (heard buffer : List ℕ) (n : ℕ) (all : List ℕ) (b c : Course) → all ≡ heard ++ take n buffer → Hears buffer n b c
+    → length heard + length buffer ≤ head_limit → (length all ≤ head_limit) × (length heard < length all)
+grown heard buffer n all b c e h room =
+    let some : 1 ≤ n = h.some in
+    let within : n ≤ length buffer = h.within in
+    let size : length all ≡ length (heard ++ take n buffer) = ap length e in (
+      omega (arith, size, length-append heard (take n buffer), length-take n buffer),
+      omega (arith, size, length-append heard (take n buffer), length-take n buffer),
+    )
 
 -- what was heard and then more, as it is kept: some octets, in takes that were needed
 pub heard_more : (heard buffer : List ℕ) (n : ℕ) (all : List ℕ) (a b c : Course) → all ≡ heard ++ take n buffer → Listens heard false a b

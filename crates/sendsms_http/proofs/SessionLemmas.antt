@@ -1,5 +1,5 @@
 -- A session, put together from what was heard, what it came to and what was said.
-use Rattle.std.proofs.Common.{◌≡◌, ◌≢◌, inl, inr, ℕ, ◌≤◌, Bool, true, false, ◌||◌, List, [], ◌∷◌, take, map, Option, Some, None, refl, ap, sym, ◌∙◌, subst, arith}
+use Rattle.std.proofs.Common.{◌≡◌, ◌≢◌, ◌⊎◌, inl, inr, ℕ, ◌≤◌, Bool, true, false, ◌||◌, List, [], ◌∷◌, take, map, Option, Some, None, Result, Ok, Err, refl, ap, sym, ◌∙◌, subst, arith}
 use Rattle.std.proofs.lemmas.List.{append-nil}
 use Rattle.std.proofs.lemmas.List.Elements.{All-nil, All-cons, All-head}
 use Rattle.kn_base.specs.declared.piece.Piece.TheVariants.{Heard}
@@ -7,6 +7,7 @@ use Rattle.kn_base.specs.Count.{Counts, CountsFailure, Rose}
 use Rattle.kn_base.specs.Course.{Course, with_more, Fails, IsQuiet}
 use Rattle.kn_base.specs.Talk.{said_of, SaysAll, SaysFront}
 use Rattle.kn_base.proofs.Talks.{with_more-with_more}
+use Rattle.sms_record.specs.declared.sms.Sms.{Sms}
 use Rattle.sendsms_http.specs.declared.answer.Answer.{Answer}
 use Rattle.sendsms_http.specs.declared.answer.Answer.TheVariants.{BadRequest, OutOfMemory}
 use Rattle.sendsms_http.specs.declared.answer.spot.Spot.TheVariants.{NotBuilt}
@@ -15,9 +16,10 @@ use Rattle.sendsms_http.specs.declared.http_end.HttpEnd.TheVariants.{End, Fault,
 use Rattle.http_text.specs.declared.head.Head.{Head}
 use Rattle.sendsms_http.specs.Answer.{reply_text}
 use Rattle.sendsms_http.specs.Acceptor.{Deed, CountsFaults, IsFaultCounted, IsSpared}
-use Rattle.http_text.specs.Head.{NeedsMore}
-use Rattle.sendsms_http.specs.Session.{IsHeadHeard, IsNoRequest, Answers, SaysSo, IsSilence, AddsAll, Talks, Serves, NoneFell, IsCaused, IsCutShort}
-use Rattle.sendsms_http.specs.SessionSteps.{IsFailure, Stops, Listens, Says, RequestComesTo}
+use Rattle.http_text.specs.Head.{BeginsWith, NeedsMore}
+use Rattle.sendsms_http.specs.Request.{asked}
+use Rattle.sendsms_http.specs.Session.{IsNoRequest, ComesTo, Answers, SaysSo, IsSilence, AddsAll, Talks, Serves, NoneFell, IsCaused, IsCutShort}
+use Rattle.sendsms_http.specs.SessionSteps.{IsFailure, Stops, Listens, Says, HandsIn, RequestComesTo}
 
 -- ---- counts
 
@@ -210,10 +212,40 @@ stopped_silence Fault heard other more = (more, refl)
 stopped_silence Quiet heard other more = (more, refl)
 stopped_silence Memory heard other more = (more, refl)
 
+module _ {S : Type 0} (leads : S → List Deed → S → Type 0) (faults : S → ℕ) (told tells : Option (List ℕ)) (head : Head) (now : ℕ) (clock : AddsAll (now ∷ []) told tells) where
+  -- the message of a request was handed in
+  pub comes_to_handed : (store later : S) (parts : List Sms) (answer : Answer) → asked head now ≡ Ok parts
+      → HandsIn leads faults store later parts now answer → RequestComesTo leads faults store later told tells head answer
+  comes_to_handed store later parts answer is h =
+      let deeds : List Deed = record { parts = parts; time = now; outcome = h.outcome } ∷ [] in
+      record {
+        now = now;
+        deeds = deeds;
+        clock = clock;
+        led = h.led;
+        counts = h.counts;
+        comes_to = inl (subst (λ (asks : Result (List Sms) Answer). ComesTo asks now deeds answer) (sym is) (h.outcome, h.accepted, refl, h.answered));
+      }
+
+  -- a request was refused, or there was no memory for it
+  pub comes_to_refused : (store : S) (answer : Answer) → leads store [] store → (answer ≡ OutOfMemory) ⊎ (asked head now ≡ Err answer)
+      → RequestComesTo leads faults store store told tells head answer
+  comes_to_refused store answer led refusal = record {
+    now = now;
+    deeds = [];
+    clock = clock;
+    led = led;
+    counts = CountsFaults-nil (faults store);
+    comes_to = elim refusal [
+      | inl want ↦ inr (refl, want)
+      | inr is ↦ inl (subst (λ (asks : Result (List Sms) Answer). ComesTo asks now [] answer) (sym is) (refl, refl))
+    ];
+  }
+
 -- a request was heard and answered
 pub serves_request : {S : Type 0} (leads : S → List Deed → S → Type 0) (faults : S → ℕ) (store later : S) (a b c : Course)
     (told tells : Option (List ℕ)) (end : HttpEnd) (heard : List ℕ) (head : Head) (answer : Answer) → Listens heard false a b
-    → IsHeadHeard heard head → RequestComesTo leads faults store later told tells head answer → Says end (reply_text answer true) b c
+    → BeginsWith heard head → RequestComesTo leads faults store later told tells head answer → Says end (reply_text answer true) b c
     → Serves leads faults store later a c told tells end
 serves_request leads faults store later a b c told tells end heard head answer l stands r says = record {
   readings = r.now ∷ [];

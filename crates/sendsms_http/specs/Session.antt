@@ -1,7 +1,6 @@
 -- What one session over HTTP comes to: at most one request is heard, it is answered, and the connection closes.
 use Rattle.std.specs.Prelude.{◌≡◌, ◌≢◌, ◌⊎◌, ℕ, ◌<◌, ◌≤◌, Bool, true, false, ◌||◌, List, [], ◌∷◌, ◌++◌, length, take, map, Option, Some, IfSome, Result, Ok, Err, IfOk, ⊤}
 use Rattle.std.specs.List.{concat}
-use Rattle.httparse.specs.Grammar.{RequestHead}
 use Rattle.kn_base.specs.declared.piece.Piece.{Piece}
 use Rattle.kn_base.specs.declared.piece.Piece.TheVariants.{Heard}
 use Rattle.kn_base.specs.Count.{Counts, Rose}
@@ -18,7 +17,7 @@ use Rattle.sendsms_http.specs.declared.reply.Reply.{Reply}
 use Rattle.sendsms_http.specs.declared.reply.Refusal.{Refusal}
 use Rattle.sendsms_http.specs.Acceptor.{Deed, CountsFaults}
 use Rattle.sendsms_http.specs.Answer.{reply_text}
-use Rattle.http_text.specs.Head.{head_limit, Stands, NeverHas, NeedsMore, IsTooLong, head_of}
+use Rattle.http_text.specs.Head.{head_limit, BeginsWith, NeverHas, NeedsMore, IsTooLong}
 use Rattle.sendsms_http.specs.Reply.{IsAccepted, answer_of}
 use Rattle.sendsms_http.specs.Request.{asked}
 
@@ -31,10 +30,6 @@ AreNeeded heard (octets ∷ takes) = NeedsMore heard × AreNeeded (heard ++ octe
 pub record IsHeard (takes : List (List ℕ)) : Type 0 where
   pub needed : AreNeeded [] takes
   pub within : length (concat takes) ≤ head_limit
-
--- the head at the front of what was heard says this
-abbrev pub IsHeadHeard : List ℕ → Head → Type 0
-IsHeadHeard heard head = (h : RequestHead) × (rest : List ℕ) × Stands heard h rest × (head ≡ head_of h)
 
 -- What was heard is no request, and nothing more is waited for: no head can come, or as many octets as are looked at were
 -- heard; or more were needed, and the input ended.
@@ -65,7 +60,7 @@ pub record RefusesForm (heard : List ℕ) (ended : Bool) (readings : List ℕ) (
 -- The answer to a request: the clock is read once, and what the head asks at that reading decides, but for want of memory.
 pub record AnswersRequest (heard : List ℕ) (ended : Bool) (readings : List ℕ) (deeds : List Deed) (answer : Answer) : Type 0 where
   pub head : Head
-  pub stands : IsHeadHeard heard head
+  pub stands : BeginsWith heard head
   pub at_once : ended ≡ false
   pub now : ℕ
   pub reading : readings ≡ now ∷ []

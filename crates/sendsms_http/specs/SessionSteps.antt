@@ -18,10 +18,10 @@ use Rattle.sendsms_http.specs.declared.session.hearing.Listened.TheVariants.{Req
 use Rattle.sendsms_http.specs.declared.reply.Reply.{Reply}
 use Rattle.sendsms_http.specs.declared.reply.Refusal.{Refusal}
 use Rattle.sendsms_http.specs.Acceptor.{Deed, CountsFaults}
-use Rattle.http_text.specs.Head.{NeedsMore}
+use Rattle.http_text.specs.Head.{BeginsWith, NeedsMore}
 use Rattle.sendsms_http.specs.Reply.{IsAccepted, answer_of}
 use Rattle.sendsms_http.specs.Request.{asked}
-use Rattle.sendsms_http.specs.Session.{IsHeard, IsHeadHeard, IsNoRequest, ComesTo, IsOutOfMemory, SaysSo, AddsAll, NoneFell, IsCaused}
+use Rattle.sendsms_http.specs.Session.{IsHeard, IsNoRequest, ComesTo, IsOutOfMemory, SaysSo, AddsAll, NoneFell, IsCaused}
 
 -- what a failed call means for the end, by the counts of want of memory before and after it
 abbrev pub IsFailure : HttpEnd → ℕ → ℕ → Type 0
@@ -51,7 +51,7 @@ pub record Listens (heard : List ℕ) (ended : Bool) (old new : Course) : Type 0
 
 -- what came of listening
 abbrev pub ListensSo : Listened → Course → Course → Type 0
-ListensSo (Request head) old new = (heard : List ℕ) × Listens heard false old new × IsHeadHeard heard head
+ListensSo (Request head) old new = (heard : List ℕ) × Listens heard false old new × BeginsWith heard head
 ListensSo NoRequest old new = (heard : List ℕ) × (ended : Bool) × (heard ≢ []) × Listens heard ended old new × IsNoRequest heard ended
 ListensSo Lost old new = (heard : List ℕ) × (heard ≢ []) × Listens heard false old new
 ListensSo Nothing old new = Listens [] true old new
@@ -63,6 +63,11 @@ abbrev pub TakesMore : Option Listened → List ℕ → Course → Course → Ty
 TakesMore None heard old new = (heard ≢ []) × Listens heard false old new
 TakesMore (Some listened) heard old new = ListensSo listened old new
 
+-- what came of listening where the input ended behind octets of which more were needed
+abbrev pub at_end : List ℕ → Listened
+at_end [] = Nothing
+at_end (octet ∷ octets) = NoRequest
+
 -- what a reading of a head means for listening: more is needed, or it has come to its end
 abbrev pub listened_of : HeadRead → Option Listened
 listened_of (read_is.Whole head len) = Some (Request head)
@@ -73,7 +78,7 @@ listened_of (read_is.TooLong seen) = Some NoRequest
 -- what is made of what was heard so far: more is needed, or it is a request or none, or there was no memory
 abbrev pub LooksAt : Option Listened → List ℕ → Type 0
 LooksAt None heard = NeedsMore heard
-LooksAt (Some (Request head)) heard = IsHeadHeard heard head
+LooksAt (Some (Request head)) heard = BeginsWith heard head
 LooksAt (Some NoRequest) heard = IsNoRequest heard false
 LooksAt (Some Lost) heard = ⊤
 LooksAt (Some Nothing) heard = ⊥

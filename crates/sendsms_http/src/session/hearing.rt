@@ -1,6 +1,6 @@
 //! Hearing octets up to the end of a request's head.
 
-ghost use Rattle.std.specs.Prelude.{◌≡◌, ◌<◌, ◌≤◌, false, IfNone, length};
+ghost use Rattle.std.specs.Prelude.{◌≡◌, ◌<◌, ◌≤◌, ◌+◌, false, IfNone, length};
 ghost use Rattle.kn_base.specs.Course.{Course};
 ghost use Rattle.http_text.specs.Head.{head_limit, NeedsMore};
 ghost use Rattle.sendsms_http.specs.SessionSteps as spec;
@@ -52,22 +52,37 @@ fn hear<S: Source>(source: &mut S, heard: &mut Octets) -> Option<Listened>
     ensures grows { IfNone result (length heard.old < length heard.new) }
 {
     let mut buffer = [0; PIECE_LIMIT];
-    let room = PIECE_LIMIT.min(HEAD_LIMIT - heard.len());
-    let piece = &mut buffer[..room];
+    let piece = &mut buffer[..room_behind(heard.len())];
     let starved = source.starved();
     match source.take(piece) {
         Take::Bytes(taken) => match heard.extend_from_slice(&piece[..taken]) {
             Ok(()) => None,
             Err(Memory) => Some(Listened::Lost),
         },
-        Take::End => {
-            if heard.is_empty() {
-                return Some(Listened::Nothing);
-            }
-            Some(Listened::NoRequest)
-        }
+        Take::End => Some(at_end(heard)),
         Take::Quiet => Some(Listened::Stopped(HttpEnd::Quiet)),
         Take::Failed => Some(Listened::Stopped(end_of_failure(starved, source.starved()))),
+    }
+}
+
+// How many octets are taken at once behind so many.
+fn room_behind(heard: usize) -> usize
+    requires { heard < head_limit }
+    ensures some { 0 < result }
+    ensures small { result ≤ PIECE_LIMIT }
+    ensures within { heard + result ≤ head_limit }
+{
+    PIECE_LIMIT.min(HEAD_LIMIT - heard)
+}
+
+// What came of listening where the input ended behind octets, and more were needed.
+fn at_end(heard: &Octets) -> Listened
+    ensures { result ≡ spec.at_end heard.now }
+{
+    if heard.is_empty() {
+        Listened::Nothing
+    } else {
+        Listened::NoRequest
     }
 }
 

@@ -1,7 +1,8 @@
-use Rattle.std.proofs.Common.{◌≡◌, subst}
+use Rattle.std.proofs.Common.{◌≡◌, subst, map}
 use Rattle.std.specs.Prelude.{option_map}
 use Rattle.sendsms_http.specs.Session.{Talks}
 use Rattle.boxes_main.specs.Door.{fault_by}
+use Rattle.boxes_main.specs.Worker.{worker_of}
 use Rattle.boxes_main.specs.declared.failure.Failure.TheVariants.{Session}
 use Rattle.boxes_main.proofs.Sessions.{serves_by}
 use Rattle.boxes_main.proofs.session.serve.Goals as goal
@@ -16,7 +17,7 @@ returns g c =
     serves_by course g.H.S.Shelf.files g.H.S.Shelf.calls g.H.S.Shelf.faults g.H.D.Disk.tells g.H.D.Disk.contents g.H.D.Disk.faults g.H.C.Clock.readings
     (rooms c.args.house.now) (rooms clocked) (rooms (g.H.House.with_rooms clocked (record (rooms clocked) { visitor = peer })))
     (g.H.House.stock c.args.house.now) (g.H.House.stock clocked) (g.H.House.stock (g.H.House.with_rooms clocked (record (rooms clocked) { visitor = peer })))
-    peer c.args.store c.serve_http-end.new.acceptor c.clock-clock.result c.serve_http-end.new.clock s.readings s.deeds c.serve_http-end.result c.close.result _
+    peer c.args.store c.serve_http-end.new.acceptor c.clock-clock.result c.serve_http-end.new.clock s.readings s.deeds c.serve_http-end.result c.close.result (map worker_of c.leave.result)
     c.clock-clock.ensures.rooms (g.met.H.House.rooms_with clocked (record (rooms clocked) { visitor = peer })) c.clock-clock.ensures.stock (g.met.H.House.stock_with clocked (record (rooms clocked) { visitor = peer }))
     c.status.result c.failure_of-failure.result c.status.ensures
     (subst (λ b. c.failure_of-failure.result ≡ option_map Session (fault_by b c.serve_http-end.result)) c.is_broken.ensures c.failure_of-failure.ensures)

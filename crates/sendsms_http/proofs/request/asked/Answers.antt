@@ -1,5 +1,5 @@
 -- Each branch of the code is a branch of the definition.
-use Rattle.std.proofs.Common.{◌≡◌, ◌⊎◌, rules, [], ◌∷◌, List, Ok, Err, All, inr, sym, ap, ◌∙◌, subst}
+use Rattle.std.proofs.Common.{◌≡◌, ◌⊎◌, rules, [], ◌∷◌, List, length, Ok, Err, All, inr, sym, ap, ◌∙◌, subst}
 use Rattle.std.proofs.lemmas.List.Elements.{All-cons, All-nil}
 use Rattle.sms_record.specs.declared.sms.Sms.{Sms}
 use Rattle.sms_record.specs.Record.{IsSms}
@@ -40,3 +40,12 @@ returns-clause-sound c =
     let parts = c.in_ok-alone.ensures ∙ ap (λ (m : Sms). m ∷ []) c.in_ok-message.ensures in
     let sound = IsSms-message (pairs c.as_slice-2.result.now) c.in_ok-form.form c.args.now c.in_ok-form.ensures.form c.requires in
     subst (λ (xs : List Sms). All IsSms xs) (sym parts) (All-cons IsSms _ [] sound (All-nil IsSms))
+
+pub returns-clause-one_part : goal.returns-clause-one_part
+returns-clause-one_part c = ap length (c.in_ok-alone.ensures)
+
+pub returns-clause-timed : goal.returns-clause-timed
+returns-clause-timed c =
+    let timed : c.in_ok-message.field-0.time ≡ c.args.now = ap (λ (m : Sms). m.time) c.in_ok-message.ensures in
+    subst (λ (xs : List Sms). All (λ part. part.time ≡ c.args.now) xs) (sym c.in_ok-alone.ensures)
+    (All-cons (λ part. part.time ≡ c.args.now) _ [] timed (All-nil (λ part. part.time ≡ c.args.now)))

@@ -1,8 +1,0 @@
-//! `kn_base`.
-
-mod digits;
-mod fake;
-mod lists;
-mod machine;
-mod memory_forms;
-mod tables;
