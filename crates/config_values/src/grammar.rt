@@ -10,7 +10,7 @@ use crate::shape::{has_len, is_digits, is_path, is_printable, is_word};
 use crate::text::{is_text, is_utf8};
 use crate::truth::truth_of;
 
-/// What a value may hold (docs/FORMATS.md, 'Values'). Bounds are counted in.
+/// What a value may hold (docs/FORMATS.md, 'Values of a configuration'). Bounds are counted in.
 #[derive(Clone, Copy)]
 pub enum Grammar {
     /// At least and at most so many octets, any.

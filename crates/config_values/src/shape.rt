@@ -55,8 +55,5 @@ pub(crate) fn is_word(value: &[u8], most: usize) -> bool
 pub(crate) fn is_path(value: &[u8]) -> bool
     ensures { result ≡ spec.is_path value.now }
 {
-    match value {
-        [b'/', ..] => true,
-        _ => false,
-    }
+    matches!(value, [b'/', ..])
 }
