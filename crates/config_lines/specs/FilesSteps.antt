@@ -1,5 +1,7 @@
 -- What serves the proofs of reading files.
-use Rattle.std.specs.Prelude.{◌≡◌, ◌≤◌, ℕ, List, Option, Some, None}
+use Rattle.std.specs.Prelude.{◌≡◌, ◌≤◌, ℕ, List, Option, Some, None, Result, OnOk}
+use Rattle.kn_base.specs.Count.{Rose}
+use Rattle.kn_base.specs.declared.memory.Memory.{Memory}
 use Rattle.config_lines.specs.Files.{line_into, lines_into, include_at, files_into, texts_but}
 use Rattle.config_lines.specs.Line.{line_of}
 use Rattle.config_lines.specs.declared.read.Read.{Read}
@@ -44,3 +46,11 @@ ReadsIncluded files levels name old new =
 abbrev pub ReadsFile : List (List ℕ × List ℕ) → (levels : ℕ) → List ℕ → (old new : Read) → Type 0
 ReadsFile files levels name old new =
     (missing : Option ℕ) → Agrees new missing → new ≡ files_into (texts_but files missing) levels name old
+
+-- How reading goes: the shelf keeps its files, and its count of faults doesn't fall, and rose where a file could not be had. No file is
+-- unread.
+pub record Goes (shelf shelf_now : Option (List (List ℕ × List ℕ))) (count count_now : ℕ) (old new : Read) (result : Result (Unit {0}) Memory) : Type 0 where
+  pub kept : shelf_now ≡ shelf
+  pub not_fewer : count ≤ count_now
+  pub missed : OnOk result ((new.fault ≡ Some faults.NoFile) → Rose count count_now)
+  pub files : OnOk result (old.files ≤ new.files)

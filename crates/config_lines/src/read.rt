@@ -3,7 +3,7 @@
 ghost use Rattle.std.specs.Prelude.{◌≡◌, ◌≢◌, ◌≤◌, ℕ, List, Option, Some, None, IfOk, OnOk, IfSome};
 ghost use Rattle.kn_base.specs.Count.{Rose};
 ghost use Rattle.config_lines.specs.Files as spec;
-ghost use Rattle.config_lines.specs.FilesSteps.{Agrees, PutsLine, ReadsFile, ReadsIncluded, ReadsLine, ReadsText};
+ghost use Rattle.config_lines.specs.FilesSteps.{Agrees, Goes, PutsLine, ReadsFile, ReadsIncluded, ReadsLine, ReadsText};
 ghost use Rattle.std.specs.Str.Lines.{lines};
 ghost use Rattle.config_lines.specs.declared.read.LinesFault.TheVariants.{NoFile};
 
@@ -97,11 +97,8 @@ fn add_text<S: Shelf>(
     read: &mut Read,
 ) -> Result<(), Memory>
     requires { read.old.fault ≡ None }
-    ensures files { OnOk result (read.old.files ≤ read.new.files) }
     ensures read { OnOk result (IfSome (S.files shelf.old) (λ all. ReadsText all levels file 1 (lines text.now) read.old read.new)) }
-    ensures kept { S.files shelf.new ≡ S.files shelf.old }
-    ensures missed { OnOk result ((read.new.fault ≡ Some NoFile) → Rose (S.faults shelf.old) (S.faults shelf.new)) }
-    ensures not_fewer { S.faults shelf.old ≤ S.faults shelf.new }
+    ensures went { Goes (S.files shelf.old) (S.files shelf.new) (S.faults shelf.old) (S.faults shelf.new) read.old read.new result }
 {
     let mut rest = text;
     let mut number = 1;
@@ -132,11 +129,8 @@ fn add_line<S: Shelf>(
     read: &mut Read,
 ) -> Result<(), Memory>
     requires { read.old.fault ≡ None }
-    ensures files { OnOk result (read.old.files ≤ read.new.files) }
     ensures read { OnOk result (IfSome (S.files shelf.old) (λ all. ReadsLine all levels file number octets.now read.old read.new)) }
-    ensures kept { S.files shelf.new ≡ S.files shelf.old }
-    ensures missed { OnOk result ((read.new.fault ≡ Some NoFile) → Rose (S.faults shelf.old) (S.faults shelf.new)) }
-    ensures not_fewer { S.faults shelf.old ≤ S.faults shelf.new }
+    ensures went { Goes (S.files shelf.old) (S.files shelf.new) (S.faults shelf.old) (S.faults shelf.new) read.old read.new result }
 {
     match put_line(alloc, file, number, octets, read)? {
         Some(name) => add_included(alloc, shelf, name.as_slice(), levels, read),
@@ -154,11 +148,8 @@ fn add_included<S: Shelf>(
     read: &mut Read,
 ) -> Result<(), Memory>
     requires { read.old.fault ≡ None }
-    ensures files { OnOk result (read.old.files ≤ read.new.files) }
     ensures read { OnOk result (IfSome (S.files shelf.old) (λ all. ReadsIncluded all levels name.now read.old read.new)) }
-    ensures kept { S.files shelf.new ≡ S.files shelf.old }
-    ensures missed { OnOk result ((read.new.fault ≡ Some NoFile) → Rose (S.faults shelf.old) (S.faults shelf.new)) }
-    ensures not_fewer { S.faults shelf.old ≤ S.faults shelf.new }
+    ensures went { Goes (S.files shelf.old) (S.files shelf.new) (S.faults shelf.old) (S.faults shelf.new) read.old read.new result }
 {
     if levels == 0 {
         read.fault = Some(LinesFault::TooDeep);
@@ -177,11 +168,8 @@ fn add_file<S: Shelf>(
     read: &mut Read,
 ) -> Result<(), Memory>
     requires { read.old.fault ≡ None }
-    ensures files { OnOk result (read.old.files ≤ read.new.files) }
     ensures read { OnOk result (IfSome (S.files shelf.old) (λ all. ReadsFile all levels name.now read.old read.new)) }
-    ensures kept { S.files shelf.new ≡ S.files shelf.old }
-    ensures missed { OnOk result ((read.new.fault ≡ Some NoFile) → Rose (S.faults shelf.old) (S.faults shelf.new)) }
-    ensures not_fewer { S.faults shelf.old ≤ S.faults shelf.new }
+    ensures went { Goes (S.files shelf.old) (S.files shelf.new) (S.faults shelf.old) (S.faults shelf.new) read.old read.new result }
 {
     if read.files >= MOST_FILES {
         read.fault = Some(LinesFault::TooDeep);
