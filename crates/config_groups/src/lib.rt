@@ -1,0 +1,6 @@
+//! The settings of a configuration: its groups, the table of its variables, and what they come to.
+//!
+//! The one contract: the settings are those that the definition gives, and each fault is the first in the order of reading.
+#![tactic(auto)]
+
+mod group;
