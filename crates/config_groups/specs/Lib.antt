@@ -1,1 +1,4 @@
 pub mod Groups
+pub mod Table
+pub mod Roles
+pub mod Faults

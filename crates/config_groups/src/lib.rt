@@ -3,4 +3,7 @@
 //! The one contract: the settings are those that the definition gives, and each fault is the first in the order of reading.
 #![tactic(auto)]
 
+mod fault;
 mod group;
+mod role;
+mod table;
