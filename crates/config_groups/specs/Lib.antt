@@ -2,3 +2,4 @@ pub mod Groups
 pub mod Table
 pub mod Roles
 pub mod Faults
+pub mod Missing

@@ -62,7 +62,7 @@ sender = Of Sender
 abbrev pub truth : Range
 truth = Of Truth
 
-abbrev pub rows : List Row
+unfoldable pub rows : List Row
 rows =
   row Every (codes "group") Any Always ∷
   row Core (codes "store-file") (octets 1 255) Free ∷

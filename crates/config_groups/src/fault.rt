@@ -38,6 +38,7 @@ fn range_in(rows: &[Row], role: Role, name: &[u8]) -> Option<Range>
 }
 
 /// What a variable may hold, where such a group has one of this name.
+#[tactic(auto, unfolding(crate::specs::Faults::range_of))]
 pub(crate) fn range_of(role: Role, name: &[u8]) -> Option<Range>
     ensures { result ≡ spec.range_of role name.now }
 {

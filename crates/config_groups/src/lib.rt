@@ -5,5 +5,6 @@
 
 mod fault;
 mod group;
+mod missing;
 mod role;
 mod table;

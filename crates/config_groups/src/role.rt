@@ -4,11 +4,16 @@ ghost use Rattle.std.specs.Prelude.{◌≡◌, option_copied};
 ghost use Rattle.config_groups.specs.Roles as spec;
 
 use crate::group::Set;
-use crate::table::{GROUP, PROTOCOL, Section, protocol_of};
+use crate::table::{CORE, GROUP, PROTOCOL, Section, protocol_of};
 use route_rules::LinkKind;
 
 /// How many groups of links, of users and of services may stand.
 const MOST_GROUPS: u32 = 1_000;
+
+const LINK: &[u8] = b"smsc";
+const SMSBOX: &[u8] = b"smsbox";
+const USER: &[u8] = b"sendsms-user";
+const SERVICE: &[u8] = b"sms-service";
 
 /// The kinds of groups that are known.
 #[derive(Clone, Copy)]
@@ -112,15 +117,15 @@ fn only_first(left: u32, kind: Kind) -> Role
 fn family_of(name: &[u8]) -> Option<Family>
     ensures { result ≡ spec.family_of name.now }
 {
-    if name == b"core" {
+    if name == CORE {
         Some(Family::Core)
-    } else if name == b"smsc" {
+    } else if name == LINK {
         Some(Family::Link)
-    } else if name == b"smsbox" {
+    } else if name == SMSBOX {
         Some(Family::Smsbox)
-    } else if name == b"sendsms-user" {
+    } else if name == USER {
         Some(Family::User)
-    } else if name == b"sms-service" {
+    } else if name == SERVICE {
         Some(Family::Service)
     } else {
         None

@@ -69,6 +69,9 @@ pub(crate) struct Row(
 /// The name of the variable that says of which kind a group is.
 pub(crate) const GROUP: &[u8] = b"group";
 
+/// The kind of the group that has to stand.
+pub(crate) const CORE: &[u8] = b"core";
+
 /// The name of the variable that says what a link speaks.
 pub(crate) const PROTOCOL: &[u8] = b"smsc";
 
@@ -174,6 +177,7 @@ static ROWS: [Row; 56] = [
 ];
 
 /// All variables.
+#[tactic(auto, unfolding(crate::specs::Table::rows))]
 pub(crate) fn rows() -> &'static [Row]
     ensures { map spec.plain result.now ≡ spec.rows }
 {

@@ -1,0 +1,7 @@
+use Rattle.std.proofs.Common.{◌≡◌, drop}
+use Rattle.config_groups.specs.Missing.{first_missing, missing_in}
+use Rattle.config_groups.proofs.missing.first_missing.Given as goal
+
+-- no group so far lacks a variable
+abbrev pub invariant-loop-group : goal.invariant-loop-group
+invariant-loop-group l = first_missing l.groups ≡ missing_in l.room l.number (drop l.group-index l.groups)
