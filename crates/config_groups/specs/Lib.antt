@@ -3,3 +3,5 @@ pub mod Table
 pub mod Roles
 pub mod Faults
 pub mod Missing
+pub mod Fields
+pub mod Passed

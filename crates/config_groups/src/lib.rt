@@ -4,7 +4,9 @@
 #![tactic(auto)]
 
 mod fault;
+mod field;
 mod group;
 mod missing;
+mod passed;
 mod role;
 mod table;
