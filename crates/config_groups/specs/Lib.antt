@@ -5,3 +5,4 @@ pub mod Faults
 pub mod Missing
 pub mod Fields
 pub mod Passed
+pub mod Settings

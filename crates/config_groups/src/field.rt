@@ -40,7 +40,8 @@ pub(crate) fn two(
     first: &[u8],
     second: &[u8],
 ) -> Result<(Octets, Octets), Memory>
-    ensures { IfOk result (λ two. two ≡ (spec.octets first.now group.now, spec.octets second.now group.now)) }
+    ensures first { IfOk result (λ two. two.0 ≡ spec.octets first.now group.now) }
+    ensures second { IfOk result (λ two. two.1 ≡ spec.octets second.now group.now) }
 {
     let first = octets(alloc, group, first, &[])?;
     let second = octets(alloc, group, second, &[])?;

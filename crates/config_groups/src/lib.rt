@@ -9,4 +9,7 @@ mod group;
 mod missing;
 mod passed;
 mod role;
+mod settings;
 mod table;
+
+pub use settings::{Core, LinkSettings, Service, Settings, Smsbox, User};
