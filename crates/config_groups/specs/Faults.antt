@@ -95,5 +95,5 @@ fault_in room (group ∷ rest) =
     let role = role_of room group in first_of (group_fault role group) (fault_in (room_behind room role) rest)
 
 -- the first fault of groups
-abbrev pub first_fault : List (List Set) → Option Place
+unfoldable pub first_fault : List (List Set) → Option Place
 first_fault groups = fault_in whole_room groups

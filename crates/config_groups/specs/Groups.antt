@@ -27,5 +27,5 @@ groups_behind sets (line ∷ lines) =
     if ends_group line.says then some_group sets ++ groups_behind [] lines else groups_behind (sets ++ sets_of line.file line.line line.says) lines
 
 -- the groups of lines
-abbrev pub groups_of : List PlacedLine → List (List Set)
+unfoldable pub groups_of : List PlacedLine → List (List Set)
 groups_of lines = groups_behind [] lines

@@ -6,3 +6,4 @@ pub mod Missing
 pub mod Fields
 pub mod Passed
 pub mod Settings
+pub mod Config

@@ -34,5 +34,5 @@ missing_in room number (group ∷ rest) =
     let role = role_of room group in missing_by number (lacking role group) (missing_in (room_behind room role) (next_count number) rest)
 
 -- the number of the first group that lacks a variable, and its name; or how many groups there are, and core, where there is no group of it
-abbrev pub first_missing : List (List Set) → Option (ℕ × List ℕ)
+unfoldable pub first_missing : List (List Set) → Option (ℕ × List ℕ)
 first_missing groups = missing_in whole_room 0 groups

@@ -25,5 +25,5 @@ passed_in room count [] = count
 passed_in room count (group ∷ rest) = let role = role_of room group in passed_in (room_behind room role) (passed_behind role count group) rest
 
 -- how many groups and variables are passed over
-abbrev pub passed_of : List (List Set) → ℕ
+unfoldable pub passed_of : List (List Set) → ℕ
 passed_of groups = passed_in whole_room 0 groups

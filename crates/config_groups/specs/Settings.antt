@@ -17,6 +17,7 @@ use Rattle.config_groups.specs.declared.settings.smsbox.Smsbox.{Smsbox}
 use Rattle.config_groups.specs.declared.settings.user.User.{User}
 use Rattle.config_groups.specs.declared.settings.user.Ways.{Ways}
 use Rattle.config_groups.specs.Fields.{value, octets, optional, number, small, port, truth, list, sender}
+use Rattle.config_groups.specs.Passed.{passed_of}
 use Rattle.config_groups.specs.Roles.{role_of, room_behind, whole_room}
 
 -- ---- core
@@ -192,5 +193,5 @@ settings_in room settings (group ∷ rest) =
     let role = role_of room group in settings_in (room_behind room role) (with_group settings role group) rest
 
 -- what groups set
-abbrev pub settings_of : (passed : ℕ) → List (List Set) → Settings
-settings_of passed groups = settings_in whole_room (no_settings passed) groups
+unfoldable pub settings_of : List (List Set) → Settings
+settings_of groups = settings_in whole_room (no_settings (passed_of groups)) groups

@@ -171,6 +171,7 @@ fn group_fault(role: Role, group: &[Set]) -> Option<Place>
 }
 
 /// The first fault of groups.
+#[tactic(auto, unfolding(crate::specs::Faults::first_fault))]
 pub(crate) fn first_fault(groups: &[Items<Set>]) -> Option<Place>
     ensures { result ≡ spec.first_fault groups.now }
 {

@@ -29,6 +29,7 @@ fn put_group(groups: &mut Items<Items<Set>>, sets: Items<Set>) -> Result<(), Mem
 }
 
 /// The groups of lines, each with what it sets, in the order of the lines.
+#[tactic(auto, unfolding(crate::specs::Groups::groups_of))]
 pub(crate) fn groups_of(
     alloc: Global,
     lines: Items<PlacedLine>,

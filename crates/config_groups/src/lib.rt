@@ -8,8 +8,10 @@ mod field;
 mod group;
 mod missing;
 mod passed;
+mod read;
 mod role;
 mod settings;
 mod table;
 
+pub use read::{ConfigFault, read_config};
 pub use settings::{Core, LinkSettings, Service, Settings, Smsbox, User};

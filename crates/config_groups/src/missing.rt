@@ -51,6 +51,7 @@ fn missing(alloc: Global, number: u64, name: &[u8]) -> Result<Option<(u64, Octet
 
 /// The number of the first group that lacks a variable that it needs, and that variable's name; or how many groups there are, and
 /// `core`, where there is no group of it. `Memory`.
+#[tactic(auto, unfolding(crate::specs::Missing::first_missing))]
 pub(crate) fn first_missing(
     alloc: Global,
     groups: &[Items<Set>],

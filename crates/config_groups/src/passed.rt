@@ -32,6 +32,7 @@ fn passed_behind(role: Role, count: u64, group: &[Set]) -> u64
 }
 
 /// How many groups and variables are passed over. The count stands still at 2^64 - 1.
+#[tactic(auto, unfolding(crate::specs::Passed::passed_of))]
 pub(crate) fn passed_of(groups: &[Items<Set>]) -> u64
     ensures { result ≡ spec.passed_of groups.now }
 {

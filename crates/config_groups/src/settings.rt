@@ -11,6 +11,7 @@ mod user;
 
 use crate::field::two;
 use crate::group::Set;
+use crate::passed::passed_of;
 use crate::role::{Kind, Role, role_of, room_behind, whole_room};
 use core_settings::{core_of, incoming_of, outgoing_of};
 use kn_base::{Items, Memory, Octets};
@@ -118,15 +119,12 @@ fn put_group(
     Ok(())
 }
 
-/// What groups set, where so much of them is passed over.
-pub(crate) fn settings_of(
-    alloc: Global,
-    passed: u64,
-    groups: &[Items<Set>],
-) -> Result<Settings, Memory>
-    ensures { IfOk result (λ settings. settings ≡ spec.settings_of passed groups.now) }
+/// What groups set.
+#[tactic(auto, unfolding(crate::specs::Settings::settings_of))]
+pub(crate) fn settings_of(alloc: Global, groups: &[Items<Set>]) -> Result<Settings, Memory>
+    ensures { IfOk result (λ settings. settings ≡ spec.settings_of groups.now) }
 {
-    let mut settings = no_settings(alloc, passed)?;
+    let mut settings = no_settings(alloc, passed_of(groups))?;
     let mut room = whole_room();
     for group in groups {
         let role = role_of(room, group.as_slice());
