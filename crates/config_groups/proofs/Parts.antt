@@ -14,17 +14,32 @@ replies couldnotfetch requestfailed emptymessage = record { couldnotfetch = coul
 
 abbrev ways : (default_smsc forced_smsc : List ℕ) (default_sender faked_sender : Option Address) → Ways
 ways default_smsc forced_smsc default_sender faked_sender =
-  record { default_smsc = default_smsc; forced_smsc = forced_smsc; default_sender = default_sender; faked_sender = faked_sender }
+    record { default_smsc = default_smsc; forced_smsc = forced_smsc; default_sender = default_sender; faked_sender = faked_sender }
 
 abbrev link : (smsc_id host : List ℕ) (port : ℕ) (username password system_type : List ℕ) (window wait_ack keepalive reconnect_delay : ℕ) → LinkSettings
 link smsc_id host port username password system_type window wait_ack keepalive reconnect_delay = record {
-  smsc_id = smsc_id; host = host; port = port; smsc_username = username; smsc_password = password; system_type = system_type;
-  max_pending_submits = window; wait_ack = wait_ack; keepalive = keepalive; reconnect_delay = reconnect_delay }
+  smsc_id = smsc_id;
+  host = host;
+  port = port;
+  smsc_username = username;
+  smsc_password = password;
+  system_type = system_type;
+  max_pending_submits = window;
+  wait_ack = wait_ack;
+  keepalive = keepalive;
+  reconnect_delay = reconnect_delay;
+}
 
 abbrev smsbox : (host : List ℕ) (port : ℕ) (url : List ℕ) (global_sender : Option Address) (replies : Replies) → Smsbox
 smsbox host port url global_sender replies = record {
-  bearerbox_host = host; sendsms_port = port; sendsms_url = url; global_sender = global_sender;
-  reply_couldnotfetch = replies.couldnotfetch; reply_requestfailed = replies.requestfailed; reply_emptymessage = replies.emptymessage }
+  bearerbox_host = host;
+  sendsms_port = port;
+  sendsms_url = url;
+  global_sender = global_sender;
+  reply_couldnotfetch = replies.couldnotfetch;
+  reply_requestfailed = replies.requestfailed;
+  reply_emptymessage = replies.emptymessage;
+}
 
 module _ (group : List Set) where
   pub replies_is : (a b c : List ℕ) → a ≡ value (codes "reply-couldnotfetch") (codes "Could not fetch content, sorry.") group →

@@ -1,6 +1,5 @@
 -- The settings, field by field: the first value of its name in its group, else its default (docs/FORMATS.md, 'Configuration').
-use Rattle.std.specs.Prelude.{ℕ, true, false, List, [], ◌∷◌, ◌++◌, codes, Option, Some, None}
-use Rattle.sms_record.specs.declared.address.Address.{Address}
+use Rattle.std.specs.Prelude.{ℕ, true, false, List, [], ◌∷◌, ◌++◌, codes, Option, Some}
 use Rattle.route_rules.specs.declared.link_kind.LinkKind.{LinkKind}
 use Rattle.route_rules.specs.declared.link_rule.LinkRule.{LinkRule}
 use Rattle.config_groups.specs.declared.group.Set.{Set}
@@ -95,7 +94,7 @@ smsbox_of group = record {
 
 unfoldable pub texts_of : List Set → (List ℕ × List ℕ) × (List ℕ × List ℕ)
 texts_of group =
-  ((octets (codes "split-chars") group, octets (codes "split-suffix") group), (octets (codes "header") group, octets (codes "footer") group))
+    ((octets (codes "split-chars") group, octets (codes "split-suffix") group), (octets (codes "header") group, octets (codes "footer") group))
 
 unfoldable pub ways_of : List Set → Ways
 ways_of group = record {
@@ -107,7 +106,7 @@ ways_of group = record {
 
 unfoldable pub identity_of : List Set → (List ℕ × List ℕ) × List ℕ
 identity_of group =
-  ((octets (codes "username") group, octets (codes "password") group), value (codes "name") (octets (codes "username") group) group)
+    ((octets (codes "username") group, octets (codes "password") group), value (codes "name") (octets (codes "username") group) group)
 
 unfoldable pub user_of : List Set → User
 user_of group = record {
@@ -128,7 +127,7 @@ user_of group = record {
 
 unfoldable pub names_of : List Set → List ℕ × List (List ℕ) × List ℕ
 names_of group =
-  (octets (codes "keyword") group, list (codes "aliases") group, value (codes "name") (octets (codes "keyword") group) group)
+    (octets (codes "keyword") group, list (codes "aliases") group, value (codes "name") (octets (codes "keyword") group) group)
 
 unfoldable pub answers_of : List Set → Option (List ℕ) × Option (List ℕ)
 answers_of group = (optional (codes "text") group, optional (codes "get-url") group)

@@ -1,5 +1,5 @@
 -- The table of all variables (docs/FORMATS.md, 'Configuration'): which groups have each, what it may hold, and whether it is needed.
-use Rattle.std.specs.Prelude.{ℕ, ◌-◌, ◌^◌, Bool, true, false, List, [], ◌∷◌, codes, bytes_eq, Option, Some, None, is_some, if◌then◌else◌}
+use Rattle.std.specs.Prelude.{ℕ, ◌-◌, ◌^◌, Bool, true, List, [], ◌∷◌, codes, bytes_eq, Option, Some, None, is_some, if◌then◌else◌}
 use Rattle.route_rules.specs.declared.link_kind.LinkKind.{LinkKind}
 use Rattle.route_rules.specs.declared.link_kind.LinkKind.TheVariants as protocols
 use Rattle.config_values.specs.declared.grammar.Grammar.TheVariants.{Octets, Number, Truth, Sender, Printable, Digits, Path, Word, Utf8, Characters}
@@ -64,62 +64,62 @@ truth = Of Truth
 
 unfoldable pub rows : List Row
 rows =
-  row Every (codes "group") Any Always ∷
-  row Core (codes "store-file") (octets 1 255) Free ∷
-  row Core (codes "smsbox-port") (number 1 65535) Free ∷
-  row Core (codes "sms-outgoing-queue-limit") (number 1 4000000) Free ∷
-  row Core (codes "sms-incoming-queue-limit") (number 1 4000000) Free ∷
-  row Core (codes "http-workers") (number 1 32) Free ∷
-  row Core (codes "box-workers") (number 1 32) Free ∷
-  row Link (codes "smsc") Protocol Always ∷
-  row Link (codes "smsc-id") (octets 0 64) Free ∷
-  row Link (codes "host") (octets 1 255) Always ∷
-  row Link (codes "port") (number 1 65535) Always ∷
-  row Smpp (codes "smsc-username") (printable 15) Always ∷
-  row Smpp (codes "smsc-password") (printable 8) Always ∷
-  row Ucp (codes "smsc-username") (digits 16) Always ∷
-  row Ucp (codes "smsc-password") (printable 16) Always ∷
-  row Cimd2 (codes "smsc-username") (printable 32) Always ∷
-  row Cimd2 (codes "smsc-password") (printable 32) Always ∷
-  row Link (codes "system-type") (octets 0 12) Free ∷
-  row Link (codes "denied-smsc-id") list Free ∷
-  row Link (codes "allowed-smsc-id") list Free ∷
-  row Link (codes "preferred-smsc-id") list Free ∷
-  row Link (codes "denied-prefix") list Free ∷
-  row Link (codes "allowed-prefix") list Free ∷
-  row Link (codes "preferred-prefix") list Free ∷
-  row Link (codes "max-pending-submits") (number 1 50) Free ∷
-  row Link (codes "window") (number 1 50) Free ∷
-  row Link (codes "wait-ack") (number 1 3600) Free ∷
-  row Link (codes "keepalive") (number 0 3600) Free ∷
-  row Link (codes "enquire-link-interval") (number 0 3600) Free ∷
-  row Link (codes "reconnect-delay") (number 1 3600) Free ∷
-  row Smsbox (codes "bearerbox-host") (octets 1 255) Free ∷
-  row Smsbox (codes "sendsms-port") (number 1 65535) Free ∷
-  row Smsbox (codes "sendsms-url") (Of Path) Free ∷
-  row Smsbox (codes "global-sender") sender Free ∷
-  row Smsbox (codes "reply-couldnotfetch") (Of (Utf8 160)) Free ∷
-  row Smsbox (codes "reply-requestfailed") (Of (Utf8 160)) Free ∷
-  row Smsbox (codes "reply-emptymessage") (Of (Utf8 160)) Free ∷
-  row User (codes "username") (octets 1 64) Always ∷
-  row User (codes "password") (octets 1 64) Always ∷
-  row User (codes "name") (octets 1 64) Free ∷
-  row User (codes "default-smsc") (octets 0 64) Free ∷
-  row User (codes "forced-smsc") (octets 0 64) Free ∷
-  row User (codes "default-sender") sender Free ∷
-  row User (codes "faked-sender") sender Free ∷
-  row Service (codes "keyword") (Of (Word 64)) Always ∷
-  row Service (codes "aliases") list Free ∷
-  row Service (codes "name") (octets 1 64) Free ∷
-  row Service (codes "text") (octets 0 2048) (Without (codes "get-url")) ∷
-  row Service (codes "get-url") (octets 0 2048) Free ∷
-  row Service (codes "omit-empty") truth Free ∷
-  row Split (codes "max-messages") (number 1 100) Free ∷
-  row Split (codes "concatenation") truth Free ∷
-  row Split (codes "split-chars") (Of (Characters 64)) Free ∷
-  row Split (codes "split-suffix") Text Free ∷
-  row Split (codes "header") Text Free ∷
-  row Split (codes "footer") Text Free ∷ []
+    row Every (codes "group") Any Always ∷
+    row Core (codes "store-file") (octets 1 255) Free ∷
+    row Core (codes "smsbox-port") (number 1 65535) Free ∷
+    row Core (codes "sms-outgoing-queue-limit") (number 1 4000000) Free ∷
+    row Core (codes "sms-incoming-queue-limit") (number 1 4000000) Free ∷
+    row Core (codes "http-workers") (number 1 32) Free ∷
+    row Core (codes "box-workers") (number 1 32) Free ∷
+    row Link (codes "smsc") Protocol Always ∷
+    row Link (codes "smsc-id") (octets 0 64) Free ∷
+    row Link (codes "host") (octets 1 255) Always ∷
+    row Link (codes "port") (number 1 65535) Always ∷
+    row Smpp (codes "smsc-username") (printable 15) Always ∷
+    row Smpp (codes "smsc-password") (printable 8) Always ∷
+    row Ucp (codes "smsc-username") (digits 16) Always ∷
+    row Ucp (codes "smsc-password") (printable 16) Always ∷
+    row Cimd2 (codes "smsc-username") (printable 32) Always ∷
+    row Cimd2 (codes "smsc-password") (printable 32) Always ∷
+    row Link (codes "system-type") (octets 0 12) Free ∷
+    row Link (codes "denied-smsc-id") list Free ∷
+    row Link (codes "allowed-smsc-id") list Free ∷
+    row Link (codes "preferred-smsc-id") list Free ∷
+    row Link (codes "denied-prefix") list Free ∷
+    row Link (codes "allowed-prefix") list Free ∷
+    row Link (codes "preferred-prefix") list Free ∷
+    row Link (codes "max-pending-submits") (number 1 50) Free ∷
+    row Link (codes "window") (number 1 50) Free ∷
+    row Link (codes "wait-ack") (number 1 3600) Free ∷
+    row Link (codes "keepalive") (number 0 3600) Free ∷
+    row Link (codes "enquire-link-interval") (number 0 3600) Free ∷
+    row Link (codes "reconnect-delay") (number 1 3600) Free ∷
+    row Smsbox (codes "bearerbox-host") (octets 1 255) Free ∷
+    row Smsbox (codes "sendsms-port") (number 1 65535) Free ∷
+    row Smsbox (codes "sendsms-url") (Of Path) Free ∷
+    row Smsbox (codes "global-sender") sender Free ∷
+    row Smsbox (codes "reply-couldnotfetch") (Of (Utf8 160)) Free ∷
+    row Smsbox (codes "reply-requestfailed") (Of (Utf8 160)) Free ∷
+    row Smsbox (codes "reply-emptymessage") (Of (Utf8 160)) Free ∷
+    row User (codes "username") (octets 1 64) Always ∷
+    row User (codes "password") (octets 1 64) Always ∷
+    row User (codes "name") (octets 1 64) Free ∷
+    row User (codes "default-smsc") (octets 0 64) Free ∷
+    row User (codes "forced-smsc") (octets 0 64) Free ∷
+    row User (codes "default-sender") sender Free ∷
+    row User (codes "faked-sender") sender Free ∷
+    row Service (codes "keyword") (Of (Word 64)) Always ∷
+    row Service (codes "aliases") list Free ∷
+    row Service (codes "name") (octets 1 64) Free ∷
+    row Service (codes "text") (octets 0 2048) (Without (codes "get-url")) ∷
+    row Service (codes "get-url") (octets 0 2048) Free ∷
+    row Service (codes "omit-empty") truth Free ∷
+    row Split (codes "max-messages") (number 1 100) Free ∷
+    row Split (codes "concatenation") truth Free ∷
+    row Split (codes "split-chars") (Of (Characters 64)) Free ∷
+    row Split (codes "split-suffix") Text Free ∷
+    row Split (codes "header") Text Free ∷
+    row Split (codes "footer") Text Free ∷ []
 
 -- the protocol of a name
 abbrev pub protocol_of : List ℕ → Option LinkKind

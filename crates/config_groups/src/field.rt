@@ -50,11 +50,7 @@ pub(crate) fn two(
 
 /// A copy of the value of a name, where there is one.
 #[tactic(auto, unfolding(crate::specs::Fields::optional))]
-pub(crate) fn optional(
-    alloc: Global,
-    group: &[Set],
-    name: &[u8],
-) -> Result<Option<Octets>, Memory>
+pub(crate) fn optional(alloc: Global, group: &[Set], name: &[u8]) -> Result<Option<Octets>, Memory>
     ensures { IfOk result (λ value. value ≡ spec.optional name.now group.now) }
 {
     match first(group, name) {
@@ -113,11 +109,7 @@ pub(crate) fn list(alloc: Global, group: &[Set], name: &[u8]) -> Result<Items<Oc
 
 /// The address of a name.
 #[tactic(auto, unfolding(crate::specs::Fields::sender))]
-pub(crate) fn sender(
-    alloc: Global,
-    group: &[Set],
-    name: &[u8],
-) -> Result<Option<Address>, Memory>
+pub(crate) fn sender(alloc: Global, group: &[Set], name: &[u8]) -> Result<Option<Address>, Memory>
     ensures { IfOk result (λ sender. sender ≡ spec.sender name.now group.now) }
 {
     sender_of(alloc, value(group, name, &[]))

@@ -11,8 +11,11 @@ use route_rules::LinkKind;
 const MOST_GROUPS: u32 = 1_000;
 
 const LINK: &[u8] = b"smsc";
+
 const SMSBOX: &[u8] = b"smsbox";
+
 const USER: &[u8] = b"sendsms-user";
+
 const SERVICE: &[u8] = b"sms-service";
 
 /// The kinds of groups that are known.

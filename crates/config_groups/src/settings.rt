@@ -13,20 +13,19 @@ use crate::field::two;
 use crate::group::Set;
 use crate::passed::passed_of;
 use crate::role::{Kind, Role, role_of, room_behind, whole_room};
+pub use core_settings::Core;
 use core_settings::{core_of, incoming_of, outgoing_of};
 use kn_base::{Items, Memory, Octets};
+pub use link_settings::LinkSettings;
 use link_settings::{link_of, rule_of};
 use route_rules::{LinkKind, Rules};
+pub use service::Service;
 use service::service_of;
+pub use smsbox::Smsbox;
 use smsbox::smsbox_of;
 use std::alloc::Global;
-use user::user_of;
-
-pub use core_settings::Core;
-pub use link_settings::LinkSettings;
-pub use service::Service;
-pub use smsbox::Smsbox;
 pub use user::User;
+use user::user_of;
 
 /// What a configuration sets. Lists stand in the order of its groups.
 #[derive(Drop)]

@@ -4,15 +4,14 @@
 ghost use Rattle.std.specs.Prelude.{◌≡◌, map};
 ghost use Rattle.config_groups.specs.Table as spec;
 
+use Need::{Always, Free, Without};
+use Range::{Any, Of, Protocol, Text};
+use Section::{Cimd2, Core, Every, Link, Service, Smpp, Smsbox, Split, Ucp, User};
 use config_values::Grammar::{
     Characters, Digits, List, Number, Octets, Path, Printable, Sender, Truth, Utf8, Word,
 };
 use config_values::{Grammar, holds};
 use route_rules::LinkKind;
-
-use Need::{Always, Free, Without};
-use Range::{Any, Of, Protocol, Text};
-use Section::{Cimd2, Core, Every, Link, Service, Smpp, Smsbox, Split, Ucp, User};
 
 /// Which groups have a variable.
 #[derive(Clone, Copy)]
@@ -76,45 +75,64 @@ pub(crate) const CORE: &[u8] = b"core";
 pub(crate) const PROTOCOL: &[u8] = b"smsc";
 
 const NAME: Range = Of(Octets { least: 1, most: 64 });
+
 const ID: Range = Of(Octets { least: 0, most: 64 });
+
 const FILE_OR_HOST: Range = Of(Octets {
     least: 1,
     most: 255,
 });
+
 const SYSTEM: Range = Of(Octets { least: 0, most: 12 });
+
 const TEMPLATE: Range = Of(Octets {
     least: 0,
     most: 2_048,
 });
+
 const PORT: Range = Of(Number {
     least: 1,
     most: 65_535,
 });
+
 const QUEUE: Range = Of(Number {
     least: 1,
     most: 4_000_000,
 });
+
 const WORKERS: Range = Of(Number { least: 1, most: 32 });
+
 const WINDOW: Range = Of(Number { least: 1, most: 50 });
+
 const SECONDS: Range = Of(Number {
     least: 1,
     most: 3_600,
 });
+
 const SECONDS_OR_NEVER: Range = Of(Number {
     least: 0,
     most: 3_600,
 });
+
 const PARTS: Range = Of(Number {
     least: 1,
     most: 100,
 });
+
 const REPLY: Range = Of(Utf8 { most: 160 });
+
 const MARKS: Range = Of(Characters { most: 64 });
+
 const PRINTABLE_8: Range = Of(Printable { most: 8 });
+
 const PRINTABLE_15: Range = Of(Printable { most: 15 });
+
 const PRINTABLE_16: Range = Of(Printable { most: 16 });
+
 const PRINTABLE_32: Range = Of(Printable { most: 32 });
+
 const DIGITS_16: Range = Of(Digits { most: 16 });
+
 const KEYWORD: Range = Of(Word { most: 64 });
 
 static ROWS: [Row; 56] = [

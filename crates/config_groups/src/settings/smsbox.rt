@@ -10,9 +10,13 @@ use sms_record::Address;
 use std::alloc::Global;
 
 const NOT_FETCHED: &[u8] = b"Could not fetch content, sorry.";
+
 const FAILED: &[u8] = b"Request Failed";
+
 const EMPTY: &[u8] = b"<Empty reply from service provider>";
+
 const HOST: &[u8] = b"localhost";
+
 const SENDSMS: &[u8] = b"/cgi-bin/sendsms";
 
 /// Where sendsms is served, and what services answer where they have nothing to say.
