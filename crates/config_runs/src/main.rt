@@ -1,0 +1,59 @@
+//! Configurations as users have them. A line of standard input holds files, `NAME TEXT` each, between bars; the first is the
+//! configuration. What it comes to is a line of standard output below it.
+#![tactic(auto)]
+
+mod fault;
+mod groups;
+
+use config_groups::{ConfigFault, Settings, read_config};
+use fault::put_fault;
+use groups::put_settings;
+use kn_base::{MemShelf, Memory, Octets};
+use line_cases::{Cases, cut_at, cut_item, octets_of, run_lines};
+use std::alloc::Global;
+use std::process::ExitCode;
+
+/// The cases of configurations.
+struct ConfigCases;
+
+impl Cases for ConfigCases {
+    fn report(&self, alloc: Global, line: &[u8], report: &mut Octets) -> Result<(), Memory> {
+        report.extend_from_slice(b"    ")?;
+        put_config(config_in(alloc, line)?, report)?;
+        report.push(b'\n')
+    }
+}
+
+/// The files of a line.
+fn shelf_of(alloc: Global, line: &[u8]) -> Result<MemShelf, Memory> {
+    let mut files = Vec::new(alloc);
+    let mut rest = line;
+    for _ in 0..line.len() {
+        if rest.is_empty() {
+            break;
+        }
+        let (item, behind) = cut_item(rest);
+        rest = behind;
+        let (name, text) = cut_at(item, b' ');
+        files.push((Octets::from_slice(alloc, name)?, octets_of(alloc, text)?))?;
+    }
+    Ok(MemShelf::new(alloc, files, Vec::new(alloc)))
+}
+
+/// What the first file of a line comes to.
+fn config_in(alloc: Global, line: &[u8]) -> Result<Result<Settings, ConfigFault>, Memory> {
+    let (name, _) = cut_at(line, b' ');
+    let mut shelf = shelf_of(alloc, line)?;
+    Ok(read_config(alloc, &mut shelf, name))
+}
+
+fn put_config(config: Result<Settings, ConfigFault>, report: &mut Octets) -> Result<(), Memory> {
+    match config {
+        Ok(settings) => put_settings(report, &settings),
+        Err(fault) => put_fault(report, &fault),
+    }
+}
+
+fn main(rt: HostRuntime) -> ExitCode {
+    run_lines(rt, rt.alloc(), &ConfigCases)
+}
