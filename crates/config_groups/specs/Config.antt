@@ -26,13 +26,13 @@ missing_by (Some missing) = Some (faults.Missing missing.0 missing.1)
 missing_by None = None
 
 -- what is missing, where all lines were read
-abbrev pub missing_in : List (List Set) → Option ConfigFault
-missing_in groups = missing_by (first_missing groups)
+abbrev pub missing_fault : List (List Set) → Option ConfigFault
+missing_fault groups = missing_by (first_missing groups)
 
 -- the fault with which the reading of lines ended, or else what is missing
 abbrev pub ending_or_missing : Option LinesFault → List (List Set) → Option ConfigFault
 ending_or_missing (Some fault) groups = Some (ending fault)
-ending_or_missing None groups = missing_in groups
+ending_or_missing None groups = missing_fault groups
 
 abbrev pub fault_by : Option Place → Option LinesFault → List (List Set) → Option ConfigFault
 fault_by (Some place) ended groups = Some (faults.Value place.file place.line)

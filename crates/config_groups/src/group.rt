@@ -18,8 +18,8 @@ pub(crate) struct Set {
     pub(crate) value: Octets,
 }
 
-/// Puts a group last, unless it sets nothing.
-fn put_group(groups: &mut Items<Items<Set>>, sets: Items<Set>) -> Result<(), Memory>
+/// Puts a group last that ends here, unless it sets nothing.
+fn close_group(groups: &mut Items<Items<Set>>, sets: Items<Set>) -> Result<(), Memory>
     ensures { OnOk result (groups.new ≡ groups.old ++ spec.some_group sets) }
 {
     if sets.is_empty() {
@@ -42,7 +42,7 @@ pub(crate) fn groups_of(
         let PlacedLine { file, line, says } = placed;
         match says {
             Line::Blank => {
-                put_group(&mut groups, sets)?;
+                close_group(&mut groups, sets)?;
                 sets = Items::new(alloc);
             }
             Line::Comment => {}
@@ -54,6 +54,6 @@ pub(crate) fn groups_of(
             })?,
         }
     }
-    put_group(&mut groups, sets)?;
+    close_group(&mut groups, sets)?;
     Ok(groups)
 }

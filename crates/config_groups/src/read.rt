@@ -24,7 +24,8 @@ pub enum ConfigFault {
     TooDeep,
     /// A file could not be had: the shelf's count of faults rose.
     NoFile,
-    /// The group of this number, from 0, lacks the variable; or there are so many groups, and none of them is the variable `core`.
+    /// The group of this number, from 0, lacks the variable. Or there are so many groups, none of them of core, and the variable
+    /// is `core`.
     Missing { group: u64, variable: Octets },
     /// There was no memory.
     Memory,
@@ -53,8 +54,8 @@ fn ending(fault: LinesFault) -> ConfigFault
 }
 
 /// What is missing, where nothing else is wrong.
-fn missing_in(alloc: Global, groups: &[Items<Set>]) -> Result<Option<ConfigFault>, Memory>
-    ensures { IfOk result (λ fault. fault ≡ spec.missing_in groups.now) }
+fn missing_fault(alloc: Global, groups: &[Items<Set>]) -> Result<Option<ConfigFault>, Memory>
+    ensures { IfOk result (λ fault. fault ≡ spec.missing_fault groups.now) }
 {
     match first_missing(alloc, groups)? {
         Some((group, variable)) => Ok(Some(ConfigFault::Missing { group, variable })),
@@ -79,7 +80,7 @@ fn fault_of(
     }
     match ended {
         Some(fault) => Ok(Some(ending(fault))),
-        None => missing_in(alloc, groups),
+        None => missing_fault(alloc, groups),
     }
 }
 
