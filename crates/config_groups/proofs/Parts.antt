@@ -1,13 +1,10 @@
--- The parts of the settings are made of their fields.
-use Rattle.std.proofs.Common.{◌≡◌, refl, ℕ, List, Option, codes}
+-- Parts of the settings are equal where their fields are.
+use Rattle.std.proofs.Common.{◌≡◌, refl, ℕ, List, Option}
 use Rattle.sms_record.specs.declared.address.Address.{Address}
-use Rattle.config_groups.specs.declared.group.Set.{Set}
 use Rattle.config_groups.specs.declared.settings.link_settings.LinkSettings.{LinkSettings}
 use Rattle.config_groups.specs.declared.settings.smsbox.Replies.{Replies}
 use Rattle.config_groups.specs.declared.settings.smsbox.Smsbox.{Smsbox}
 use Rattle.config_groups.specs.declared.settings.user.Ways.{Ways}
-use Rattle.config_groups.specs.Fields.{value, octets, small, port, sender}
-use Rattle.config_groups.specs.Settings.{link_of, window_of, keepalive_of, replies_of, smsbox_of, ways_of}
 
 abbrev replies : (couldnotfetch requestfailed emptymessage : List ℕ) → Replies
 replies couldnotfetch requestfailed emptymessage = record { couldnotfetch = couldnotfetch; requestfailed = requestfailed; emptymessage = emptymessage }
@@ -41,27 +38,17 @@ smsbox host port url global_sender replies = record {
   reply_emptymessage = replies.emptymessage;
 }
 
-module _ (group : List Set) where
-  pub replies_is : (a b c : List ℕ) → a ≡ value (codes "reply-couldnotfetch") (codes "Could not fetch content, sorry.") group →
-      b ≡ value (codes "reply-requestfailed") (codes "Request Failed") group → c ≡ value (codes "reply-emptymessage") (codes "<Empty reply from service provider>") group →
-      replies a b c ≡ replies_of group
-  unfolding replies_of
-  replies_is a b c ea eb ec = rw (ea, eb, ec) refl
+pub same_replies : {a a2 b b2 c c2 : List ℕ} → a ≡ a2 → b ≡ b2 → c ≡ c2 → replies a b c ≡ replies a2 b2 c2
+same_replies a b c = rw (a, b, c) refl
 
-  pub ways_is : (a b : List ℕ) (c d : Option Address) → a ≡ octets (codes "default-smsc") group → b ≡ octets (codes "forced-smsc") group →
-      c ≡ sender (codes "default-sender") group → d ≡ sender (codes "faked-sender") group → ways a b c d ≡ ways_of group
-  unfolding ways_of
-  ways_is a b c d ea eb ec ed = rw (ea, eb, ec, ed) refl
+pub same_ways : {a a2 b b2 : List ℕ} {c c2 d d2 : Option Address} → a ≡ a2 → b ≡ b2 → c ≡ c2 → d ≡ d2 → ways a b c d ≡ ways a2 b2 c2 d2
+same_ways a b c d = rw (a, b, c, d) refl
 
-  pub link_is : (a b : List ℕ) (p : ℕ) (c d e : List ℕ) (w s k r : ℕ) → a ≡ octets (codes "smsc-id") group → b ≡ octets (codes "host") group →
-      p ≡ port (codes "port") 0 group → c ≡ octets (codes "smsc-username") group → d ≡ octets (codes "smsc-password") group →
-      e ≡ octets (codes "system-type") group → w ≡ window_of group → s ≡ small (codes "wait-ack") 60 group → k ≡ keepalive_of group →
-      r ≡ small (codes "reconnect-delay") 10 group → link a b p c d e w s k r ≡ link_of group
-  unfolding link_of
-  link_is a b p c d e w s k r ea eb ep ec ed ee ew es ek er = rw (ea, eb, ep, ec, ed, ee, ew, es, ek, er) refl
+pub same_link : {a a2 b b2 : List ℕ} {p p2 : ℕ} {c c2 d d2 e e2 : List ℕ} {w w2 s s2 k k2 r r2 : ℕ} →
+    a ≡ a2 → b ≡ b2 → p ≡ p2 → c ≡ c2 → d ≡ d2 → e ≡ e2 → w ≡ w2 → s ≡ s2 → k ≡ k2 → r ≡ r2 →
+    link a b p c d e w s k r ≡ link a2 b2 p2 c2 d2 e2 w2 s2 k2 r2
+same_link a b p c d e w s k r = rw (a, b, p, c, d, e, w, s, k, r) refl
 
-  pub smsbox_is : (a : List ℕ) (p : ℕ) (b : List ℕ) (s : Option Address) (r : Replies) → a ≡ value (codes "bearerbox-host") (codes "localhost") group →
-      p ≡ port (codes "sendsms-port") 13013 group → b ≡ value (codes "sendsms-url") (codes "/cgi-bin/sendsms") group →
-      s ≡ sender (codes "global-sender") group → r ≡ replies_of group → smsbox a p b s r ≡ smsbox_of group
-  unfolding smsbox_of
-  smsbox_is a p b s r ea ep eb es er = rw (ea, ep, eb, es, er) refl
+pub same_smsbox : {a a2 : List ℕ} {p p2 : ℕ} {b b2 : List ℕ} {s s2 : Option Address} {r r2 : Replies} →
+    a ≡ a2 → p ≡ p2 → b ≡ b2 → s ≡ s2 → r ≡ r2 → smsbox a p b s r ≡ smsbox a2 p2 b2 s2 r2
+same_smsbox a p b s r = rw (a, p, b, s, r) refl
