@@ -1,12 +1,18 @@
-//! Configurations as their users write them. A case is files between `|`, each a name, a blank and its text, with escapes: the
-//! first one is read, and below it stands each line that was read, and how the reading ended.
+//! Configurations as users have them. A line of standard input holds files, `NAME TEXT` each, between bars; the first is the
+//! configuration. What it comes to is a line of standard output below it. Where `lines` stands in front, each of the lines that
+//! are read of it is one.
 #![tactic(auto)]
 
-use config_lines::{Line, LinesFault, PlacedLine, Read, read_lines};
+mod fault;
+mod groups;
+mod lines;
+
+use config_groups::{ConfigFault, Settings, read_config};
+use fault::put_fault;
+use groups::put_settings;
 use kn_base::{MemShelf, Memory, Octets};
-use line_cases::{
-    Cases, both, cut_at, cut_item, octets_of, put_last, put_named, put_text, run_lines,
-};
+use line_cases::{Cases, cut_at, cut_item, octets_of, run_lines};
+use lines::put_lines;
 use std::alloc::Global;
 use std::process::ExitCode;
 
@@ -15,76 +21,43 @@ struct ConfigCases;
 
 impl Cases for ConfigCases {
     fn report(&self, alloc: Global, line: &[u8], report: &mut Octets) -> Result<(), Memory> {
-        let (first, _) = cut_item(line);
-        let (name, _) = cut_at(first, b' ');
-        let mut shelf = MemShelf::new(alloc, files_of(alloc, line)?, Vec::new(alloc));
-        put_read(report, &read_lines(alloc, &mut shelf, name)?)
+        let (kind, files) = cut_at(line, b' ');
+        if kind == b"lines".as_slice() {
+            return put_lines(alloc, files, report);
+        }
+        report.extend_from_slice(b"    ")?;
+        put_config(config_in(alloc, line)?, report)?;
+        report.push(b'\n')
     }
 }
 
-/// The files of a case, by their names.
-fn files_of(alloc: Global, line: &[u8]) -> Result<Vec<(Octets, Octets)>, Memory> {
+/// The files of a line.
+pub(crate) fn shelf_of(alloc: Global, line: &[u8]) -> Result<MemShelf, Memory> {
     let mut files = Vec::new(alloc);
     let mut rest = line;
     for _ in 0..line.len() {
         if rest.is_empty() {
             break;
         }
-        let (file, behind) = cut_item(rest);
+        let (item, behind) = cut_item(rest);
         rest = behind;
-        let (name, text) = cut_at(file, b' ');
-        put_last(
-            &mut files,
-            both(Octets::from_slice(alloc, name), octets_of(alloc, text)),
-        )?;
+        let (name, text) = cut_at(item, b' ');
+        files.push((Octets::from_slice(alloc, name)?, octets_of(alloc, text)?))?;
     }
-    Ok(files)
+    Ok(MemShelf::new(alloc, files, Vec::new(alloc)))
 }
 
-/// Puts last what was read: a line for each, and the end.
-fn put_read(report: &mut Octets, read: &Read) -> Result<(), Memory> {
-    for line in read.lines.as_slice() {
-        put_line(report, line)?;
-    }
-    report.extend_from_slice(b"    ")?;
-    match read.fault {
-        None => put_named(report, b"files: ", u64::from(read.files))?,
-        Some(fault) => put_fault(report, fault)?,
-    }
-    report.push(b'\n')
+/// What the first file of a line comes to.
+fn config_in(alloc: Global, line: &[u8]) -> Result<Result<Settings, ConfigFault>, Memory> {
+    let (name, _) = cut_at(line, b' ');
+    let mut shelf = shelf_of(alloc, line)?;
+    Ok(read_config(alloc, &mut shelf, name))
 }
 
-/// Puts last where a line stands and what it says.
-fn put_line(report: &mut Octets, line: &PlacedLine) -> Result<(), Memory> {
-    put_named(report, b"    ", u64::from(line.file))?;
-    put_named(report, b":", line.line)?;
-    put_says(report, &line.says)?;
-    report.push(b'\n')
-}
-
-/// Puts last what a line says.
-fn put_says(report: &mut Octets, says: &Line) -> Result<(), Memory> {
-    match says {
-        Line::Blank => report.extend_from_slice(b" ends a group"),
-        Line::Comment => report.extend_from_slice(b" is a comment"),
-        Line::Variable { name, value } => {
-            report.push(b' ')?;
-            put_text(report, name.as_slice())?;
-            report.push(b'=')?;
-            put_text(report, value.as_slice())
-        }
-    }
-}
-
-/// Puts last why the reading ended.
-fn put_fault(report: &mut Octets, fault: LinesFault) -> Result<(), Memory> {
-    match fault {
-        LinesFault::NoLine { file, line } => {
-            put_named(report, b"no line ", u64::from(file))?;
-            put_named(report, b":", line)
-        }
-        LinesFault::TooDeep => report.extend_from_slice(b"too deep"),
-        LinesFault::NoFile => report.extend_from_slice(b"no file"),
+fn put_config(config: Result<Settings, ConfigFault>, report: &mut Octets) -> Result<(), Memory> {
+    match config {
+        Ok(settings) => put_settings(report, &settings),
+        Err(fault) => put_fault(report, &fault),
     }
 }
 
