@@ -3,7 +3,7 @@ use Rattle.std.specs.Prelude.{◌≡◌, ℕ, Bool, true, false, List, [], ◌�
 use Rattle.std.specs.Bool.{OnTrue}
 use Rattle.kn_base.specs.Count.{Rose, next_count}
 use Rattle.kn_base.specs.Course.{Course}
-use Rattle.sendsms_http.specs.Acceptor.{Deed, IsSpared}
+use Rattle.gate_model.specs.Acceptor.{Deed, IsSpared}
 use Rattle.sendsms_http.specs.Session.{Talks}
 use Rattle.sendsms_http.specs.declared.http_end.HttpEnd.{HttpEnd}
 use Rattle.sendsms_http.specs.declared.http_end.HttpEnd.TheVariants as end_is

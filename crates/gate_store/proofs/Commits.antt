@@ -4,10 +4,10 @@ use Rattle.std.proofs.lemmas.Bool.{false≢true}
 use Rattle.std.proofs.lemmas.List.{append-nil}
 use Rattle.std.proofs.lemmas.List.Elements.{All-nil, All-cons, All-head, All-tail}
 use Rattle.kn_base.specs.Count.{Rose}
-use Rattle.sendsms_http.specs.Acceptor.{Deed, IsSpared}
-use Rattle.sendsms_http.specs.declared.reply.Refusal.{Refusal}
-use Rattle.sendsms_http.specs.declared.reply.Refusal.TheVariants.{NoRoute, Full, Disk, Memory}
-use Rattle.sendsms_http.specs.declared.reply.Reply.{Reply}
+use Rattle.gate_model.specs.Acceptor.{Deed, IsSpared}
+use Rattle.gate_model.specs.declared.reply.Refusal.{Refusal}
+use Rattle.gate_model.specs.declared.reply.Refusal.TheVariants.{NoRoute, Full, Disk, Memory}
+use Rattle.gate_model.specs.declared.reply.Reply.{Reply}
 use Rattle.store_disk.specs.Disk.{Areas}
 use Rattle.sms_record.specs.declared.entry.accept.Accept.{Accept}
 use Rattle.gate_store.specs.Deeds.{Does, Leads, IsReason, AreReasoned, CountsFault, is_by_disk, entries_of, done_of}

@@ -2,11 +2,11 @@
 use Rattle.std.specs.Prelude.{◌≡◌, ℕ, ◌+◌, ◌<◌, ◌≤◌, Bool, true, false, List, [], ◌∷◌, ◌++◌, Result, Ok, Err, is_ok, length, min, if◌then◌else◌}
 use Rattle.std.proofs.Common.{subst}
 use Rattle.kn_base.specs.Count.{Rose, last_count}
-use Rattle.sendsms_http.specs.Acceptor.{Deed}
-use Rattle.sendsms_http.specs.declared.reply.Refusal.{Refusal}
-use Rattle.sendsms_http.specs.declared.reply.Refusal.TheVariants.{NoRoute, Full, Disk, Memory}
-use Rattle.sendsms_http.specs.declared.reply.Reply.{Reply}
-use Rattle.sendsms_http.specs.declared.reply.Reply.TheVariants.{Accepted}
+use Rattle.gate_model.specs.Acceptor.{Deed}
+use Rattle.gate_model.specs.declared.reply.Refusal.{Refusal}
+use Rattle.gate_model.specs.declared.reply.Refusal.TheVariants.{NoRoute, Full, Disk, Memory}
+use Rattle.gate_model.specs.declared.reply.Reply.{Reply}
+use Rattle.gate_model.specs.declared.reply.Reply.TheVariants.{Accepted}
 use Rattle.store_disk.specs.Disk.{Areas}
 use Rattle.sms_record.specs.declared.entry.accept.Accept.{Accept}
 use Rattle.gate_store.specs.Accepts.{messages}

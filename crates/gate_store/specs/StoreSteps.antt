@@ -1,8 +1,8 @@
 -- The steps of a store: loading it, and appending an entry. No public clause cites these.
 use Rattle.std.specs.Prelude.{◌≡◌, ℕ, Bool, List, All, Option, Some, None, length}
 use Rattle.std.specs.Bool.{OnTrue}
-use Rattle.sendsms_http.specs.declared.reply.Refusal.{Refusal}
-use Rattle.sendsms_http.specs.declared.reply.Refusal.TheVariants as refusal_is
+use Rattle.gate_model.specs.declared.reply.Refusal.{Refusal}
+use Rattle.gate_model.specs.declared.reply.Refusal.TheVariants as refusal_is
 use Rattle.store_journal.specs.Area.{stands, born}
 use Rattle.store_disk.specs.Disk.{Areas}
 use Rattle.store_journal.specs.Journal.{HoldsSame, disk_of, birth_of, left}

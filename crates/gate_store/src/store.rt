@@ -3,7 +3,7 @@
 ghost use Rattle.std.specs.Prelude.{◌≡◌, ◌∷◌, [], List, ℕ, IfOk, IfErr, OnOk};
 ghost use Rattle.std.specs.Bool.{OnTrue};
 ghost use Rattle.sms_record.specs.Entry.{accept_octets};
-ghost use Rattle.sendsms_http.specs.Acceptor.{MayBeHanded};
+ghost use Rattle.gate_model.specs.Acceptor.{MayBeHanded};
 ghost use Rattle.store_journal.specs.Area.{stands};
 ghost use Rattle.store_journal.specs.Journal.{IsKept, HoldsMore, IsHandedOut};
 ghost use Rattle.sms_record.specs.declared.entry.accept.Accept.{Accept};
@@ -17,7 +17,7 @@ mod entries;
 use crate::StoreFault;
 use entries::load;
 use kn_base::{Items, Memory, Octets};
-use sendsms_http::{Acceptor, Refusal, Reply};
+use gate_model::{Acceptor, Refusal, Reply};
 use sms_record::Sms;
 use sms_record::entry::{Accept, write_accept};
 use std::alloc::Global;

@@ -1,3 +1,4 @@
+pub mod Answer
 pub mod Head
 pub mod HeadSteps
 pub mod Response

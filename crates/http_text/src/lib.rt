@@ -9,8 +9,10 @@
 //! front of it where giving failed.
 #![tactic(auto)]
 
+mod answer;
 mod head;
 mod response;
 
+pub use answer::{Answer, Spot, write_answer};
 pub use head::{HEAD_LIMIT, Head, HeadRead, LINE_LIMIT, read_head};
 pub use response::{Response, write_response};

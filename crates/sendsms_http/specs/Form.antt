@@ -1,5 +1,5 @@
 -- The form of a sendsms request: its variables, what each may hold, and the message that it asks for.
-use Rattle.std.specs.Prelude.{ℕ, Bool, false, not, ◌&&◌, ◌||◌, ◌==◌, nat_le, List, [], ◌∷◌, length, map, count_by, codes, bytes_eq, None, Result, Ok, Err, if◌then◌else◌}
+use Rattle.std.specs.Prelude.{ℕ, Bool, true, false, ◌&&◌, ◌||◌, ◌==◌, nat_le, List, [], ◌∷◌, length, map, count_by, codes, bytes_eq, None, Result, Ok, Err, if◌then◌else◌}
 use Rattle.std.specs.List.{find, list_all}
 use Rattle.std.specs.Option.{option_map_or}
 use Rattle.std.specs.Char.{is_ascii_digit, is_ascii_alphanumeric}
@@ -8,22 +8,16 @@ use Rattle.kn_base.specs.declared.charset.Charset.TheVariants.{Utf8}
 use Rattle.sms_record.specs.declared.address.Address.TheVariants.{Number}
 use Rattle.sms_record.specs.declared.coding.Coding.TheVariants.{Seven}
 use Rattle.sms_record.specs.declared.sms.Sms.{Sms}
-use Rattle.sendsms_http.specs.declared.answer.Answer.{Answer}
-use Rattle.sendsms_http.specs.declared.answer.Answer.TheVariants.{BadRequest, Unauthorized}
-use Rattle.sendsms_http.specs.declared.answer.spot.Spot.TheVariants.{NotBuilt}
+use Rattle.config_groups.specs.declared.settings.user.User.{User}
+use Rattle.http_text.specs.declared.answer.Answer.{Answer}
+use Rattle.http_text.specs.declared.answer.Answer.TheVariants.{BadRequest}
+use Rattle.http_text.specs.declared.answer.spot.Spot.TheVariants.{NotBuilt}
 use Rattle.sendsms_http.specs.declared.form.Form.{Form}
 use Rattle.sendsms_http.specs.declared.form.Variable.{Variable}
 use Rattle.sendsms_http.specs.declared.form.Variable.TheVariants.{Username, Password, From, To, Text}
 use Rattle.sendsms_http.specs.declared.form.pairs.Pair.{Pair}
 
 -- ---- what each variable may hold
-
--- the name and the password of the user
-abbrev pub user_name : List ℕ
-user_name = codes "tester"
-
-abbrev pub user_password : List ℕ
-user_password = codes "foobar"
 
 -- 1 to 15 decimal digits
 abbrev pub is_number : List ℕ → Bool
@@ -47,8 +41,8 @@ name_of Text = codes "text"
 
 -- what a variable may hold
 abbrev pub may_hold : Variable → List ℕ → Bool
-may_hold Username octets = bytes_eq octets user_name
-may_hold Password octets = bytes_eq octets user_password
+may_hold Username octets = true
+may_hold Password octets = true
 may_hold From octets = is_number octets
 may_hold To octets = is_number octets
 may_hold Text octets = is_text octets
@@ -83,10 +77,6 @@ is_held given variable = may_hold variable (value variable given)
 abbrev pub is_once : List Pair → Variable → Bool
 is_once given variable = count_by (is_of variable) given == 1
 
--- the first name and the first password are those of the user
-abbrev pub is_authorized : List Pair → Bool
-is_authorized given = is_held given Username && is_held given Password
-
 -- all variables stand once each, in any order, no other does, and each holds what it may
 abbrev pub is_form : List Pair → Bool
 is_form given = (length given == length variables) && list_all (is_once given) variables && list_all (is_held given) variables
@@ -95,17 +85,15 @@ is_form given = (length given == length variables) && list_all (is_once given) v
 abbrev pub form_of : List Pair → Form
 form_of given = record { sender = value From given; receiver = value To given; text = value Text given }
 
--- The form of a query, or the answer that refuses it. The credentials count before the rest.
+-- the form of a query, or the answer that refuses it
 abbrev pub read_form : List Pair → Result Form Answer
-read_form given =
-    if not (is_authorized given) then Err Unauthorized
-    else (if not (is_form given) then Err (BadRequest NotBuilt) else Ok (form_of given))
+read_form given = if is_form given then Ok (form_of given) else Err (BadRequest NotBuilt)
 
 -- ---- what a form asks for
 
--- the one message that a form asks for at a reading of the clock: its text, from one number to another
-abbrev pub message : Form → ℕ → Sms
-message form now = record {
+-- the one message that a form of a user asks for at a reading of the clock: its text, from one number to another
+abbrev pub message : User → Form → ℕ → Sms
+message user form now = record {
   sender = Number false form.sender;
   receiver = Number false form.receiver;
   coding = Seven;
@@ -120,7 +108,7 @@ message form now = record {
   mask = 0;
   url = [];
   account = [];
-  service = user_name;
+  service = user.name;
   charset = Utf8;
   time = now;
 }

@@ -1,8 +1,7 @@
-pub mod Acceptor
-pub mod Answer
 pub mod Form
 pub mod Reply
 pub mod Request
 pub mod Session
 pub mod SessionSteps
 pub mod Target
+pub mod Users

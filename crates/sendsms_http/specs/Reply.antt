@@ -1,16 +1,11 @@
 -- What a store's outcome says over HTTP.
-use Rattle.std.specs.Prelude.{Bool, true, false, ⊤, Result, Ok, Err}
-use Rattle.sendsms_http.specs.declared.answer.Answer.{Answer}
-use Rattle.sendsms_http.specs.declared.answer.Answer.TheVariants as answer_is
-use Rattle.sendsms_http.specs.declared.reply.Reply.{Reply}
-use Rattle.sendsms_http.specs.declared.reply.Reply.TheVariants.{Accepted, Noted}
-use Rattle.sendsms_http.specs.declared.reply.Refusal.{Refusal}
-use Rattle.sendsms_http.specs.declared.reply.Refusal.TheVariants.{NoRoute, Full, Disk, Memory}
-
--- the reply says that messages were accepted
-abbrev pub IsAccepted : Reply → Type 0
-IsAccepted (Accepted first count queued) = ⊤
-IsAccepted (Noted matched) = ⊥
+use Rattle.std.specs.Prelude.{Bool, true, false, Result, Ok, Err}
+use Rattle.http_text.specs.declared.answer.Answer.{Answer}
+use Rattle.http_text.specs.declared.answer.Answer.TheVariants as answer_is
+use Rattle.gate_model.specs.declared.reply.Reply.{Reply}
+use Rattle.gate_model.specs.declared.reply.Reply.TheVariants.{Accepted, Noted}
+use Rattle.gate_model.specs.declared.reply.Refusal.{Refusal}
+use Rattle.gate_model.specs.declared.reply.Refusal.TheVariants.{NoRoute, Full, Disk, Memory}
 
 -- the answer where messages were accepted, by whether they have to wait for a link
 abbrev pub accepted_answer : Bool → Answer

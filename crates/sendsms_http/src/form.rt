@@ -7,10 +7,10 @@ ghost use Rattle.sendsms_http.specs.Form as spec;
 
 mod pairs;
 
-use crate::credentials::{PASSWORD, USER_NAME};
-use crate::{Answer, Spot};
+use config_groups::User;
+use http_text::{Answer, Spot};
 use kn_base::{Charset, Memory, Octets};
-use pairs::{Pair, read_pairs};
+pub(crate) use pairs::{Pair, read_pairs};
 use sms_record::{Address, Coding, Sms};
 use std::alloc::Global;
 
@@ -57,8 +57,7 @@ impl Variable {
         ensures { result ≡ spec.may_hold self octets.now }
     {
         match self {
-            Variable::Username => octets == USER_NAME,
-            Variable::Password => octets == PASSWORD,
+            Variable::Username | Variable::Password => true,
             Variable::From | Variable::To => is_number(octets),
             Variable::Text => is_text(octets),
         }
@@ -75,19 +74,12 @@ pub(crate) struct Form {
     pub(crate) text: Octets,
 }
 
-/// Reads the form of a query.
-///
-/// `Unauthorized` where its first `username` and `password` aren't the user's; then `BadRequest(NotBuilt)` where it isn't the five
-/// variables, once each and in their form. `OutOfMemory` may stand in the place of any answer.
-pub(crate) fn read_form(alloc: Global, query: &[u8]) -> Result<Form, Answer>
-    ensures form { IfOk result (λ form. spec.read_form (spec.pairs query.now) ≡ Ok form) }
-    ensures refusal { IfErr result (λ answer. (answer ≡ Answer.OutOfMemory) ⊎ (spec.read_form (spec.pairs query.now) ≡ Err answer)) }
+/// Reads the form of a query: `BadRequest(NotBuilt)` where it isn't the five variables, once each and holding what they may.
+/// `OutOfMemory` may stand in the place of any answer.
+pub(crate) fn read_form(alloc: Global, pairs: &[Pair]) -> Result<Form, Answer>
+    ensures form { IfOk result (λ form. spec.read_form pairs.now ≡ Ok form) }
+    ensures refusal { IfErr result (λ answer. (answer ≡ Answer.OutOfMemory) ⊎ (spec.read_form pairs.now ≡ Err answer)) }
 {
-    let pairs = read_pairs(alloc, query)?;
-    let pairs = pairs.as_slice();
-    if !is_authorized(pairs) {
-        return Err(Answer::Unauthorized);
-    }
     if !is_form(pairs) {
         return Err(Answer::BadRequest(Spot::NotBuilt));
     }
@@ -95,9 +87,9 @@ pub(crate) fn read_form(alloc: Global, query: &[u8]) -> Result<Form, Answer>
 }
 
 impl Form {
-    /// The message that the form asks for, at a reading of the clock.
-    pub(crate) fn message(self, alloc: Global, now: u64) -> Result<Sms, Memory>
-        ensures { IfOk result (λ sms. sms ≡ spec.message self now) }
+    /// The message that the form asks for as a user's, at a reading of the clock.
+    pub(crate) fn message(self, alloc: Global, user: &User, now: u64) -> Result<Sms, Memory>
+        ensures { IfOk result (λ sms. sms ≡ spec.message user.now self now) }
     {
         Ok(Sms {
             sender: number(self.sender),
@@ -114,7 +106,7 @@ impl Form {
             mask: 0,
             url: Octets::new(alloc),
             account: Octets::new(alloc),
-            service: Octets::from_slice(alloc, USER_NAME)?,
+            service: Octets::from_slice(alloc, user.name.as_slice())?,
             charset: Charset::Utf8,
             time: now,
         })
@@ -140,13 +132,6 @@ fn form_of(alloc: Global, pairs: &[Pair]) -> Result<Form, Memory>
         receiver: Octets::from_slice(alloc, value(pairs, Variable::To))?,
         text: Octets::from_slice(alloc, value(pairs, Variable::Text))?,
     })
-}
-
-// Whether the first name and the first password are those of the user.
-fn is_authorized(pairs: &[Pair]) -> bool
-    ensures { result ≡ spec.is_authorized pairs.now }
-{
-    is_held(pairs, Variable::Username) && is_held(pairs, Variable::Password)
 }
 
 // Whether all variables stand once each, no other does, and each holds what it may.

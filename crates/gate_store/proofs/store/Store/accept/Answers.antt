@@ -1,5 +1,5 @@
 use Rattle.std.proofs.Common.{◌≡◌, ◌+◌, ◌≤◌, length, true, ap, arith}
-use Rattle.sendsms_http.specs.declared.reply.Reply.TheVariants.{Accepted}
+use Rattle.gate_model.specs.declared.reply.Reply.TheVariants.{Accepted}
 use Rattle.gate_store.specs.Store.{queue_limit}
 use Rattle.gate_store.proofs.Accepting.{one_more}
 use Rattle.gate_store.proofs.store.Store.accept.Goals as goal

@@ -2,11 +2,11 @@
 
 ghost use Rattle.std.specs.Prelude.{◌≡◌, ◌≤◌, ◌+◌, [], ◌++◌, length};
 ghost use Rattle.kn_base.specs.Talk.{WritesAll};
-ghost use Rattle.sendsms_http.specs.Answer as spec;
+ghost use Rattle.http_text.specs.Answer as spec;
 
 mod spot;
 
-use http_text::{Response, write_response};
+use crate::{Response, write_response};
 use kn_base::{Memory, Sink, Wrote};
 pub use spot::Spot;
 
@@ -19,6 +19,8 @@ pub enum Answer {
     Queued,
     /// 400: the request can't be read so.
     BadRequest(Spot),
+    /// 404: the path isn't that of sendsms.
+    UnknownPath,
     /// 403: the name and password aren't those of a user.
     Unauthorized,
     /// 403: no link may carry the message.
@@ -55,6 +57,7 @@ impl Answer {
                 text: b"Bad request: ",
                 name: spot.name(),
             },
+            Answer::UnknownPath => plain(b"404 Not Found", b"Unknown path."),
             Answer::Unauthorized => plain(b"403 Forbidden", b"Authorization failed for sendsms"),
             Answer::NotRoutable => plain(b"403 Forbidden", b"Not routable. Do not try again."),
             Answer::Unavailable => plain(
@@ -81,7 +84,7 @@ fn plain(status: &'static [u8], text: &'static [u8]) -> Response
 
 impl From<Memory> for Answer {
     ghost use Rattle.std.specs.Prelude.{◌≡◌};
-    ghost use Rattle.sendsms_http.specs.declared.answer.Answer.TheVariants.{OutOfMemory};
+    ghost use Rattle.http_text.specs.declared.answer.Answer.TheVariants.{OutOfMemory};
 
     ghost from_gives = { λ _ answer. answer ≡ OutOfMemory };
 

@@ -2,8 +2,8 @@
 
 ghost use Rattle.std.specs.Prelude.{◌≡◌, ◌≢◌, ℕ, ◌≤◌, List, [], ◌∷◌, ◌++◌, IfOk, Err};
 ghost use Rattle.kn_base.specs.Count.{Rose};
-ghost use Rattle.sendsms_http.specs.Acceptor.{Deed, MayBeHanded};
-ghost use Rattle.sendsms_http.specs.Reply.{IsAccepted};
+ghost use Rattle.gate_model.specs.Acceptor.{Deed, MayBeHanded};
+ghost use Rattle.gate_model.specs.Reply.{IsAccepted};
 
 use crate::{Refusal, Reply};
 use sms_record::Sms;

@@ -3,9 +3,9 @@ use Rattle.std.specs.Prelude.{◌≡◌, ◌≢◌, ℕ, ◌<◌, ◌≤◌, ◌
 use Rattle.kn_base.specs.Count.{Rose}
 use Rattle.sms_record.specs.declared.sms.Sms.{Sms}
 use Rattle.sms_record.specs.Entry.{IsAccept, accept_size}
-use Rattle.sendsms_http.specs.declared.reply.Reply.{Reply}
-use Rattle.sendsms_http.specs.declared.reply.Refusal.{Refusal}
-use Rattle.sendsms_http.specs.declared.reply.Refusal.TheVariants.{Disk}
+use Rattle.gate_model.specs.declared.reply.Reply.{Reply}
+use Rattle.gate_model.specs.declared.reply.Refusal.{Refusal}
+use Rattle.gate_model.specs.declared.reply.Refusal.TheVariants.{Disk}
 
 -- Messages that were handed in at a time, and the outcome.
 pub record Deed : Type 0 where

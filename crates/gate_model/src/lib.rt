@@ -1,0 +1,12 @@
+//! What a store of messages is to those that hand messages in.
+//!
+//! An `Acceptor` takes the parts of a message, and answers a `Reply` or a `Refusal`.
+//!
+//! The one contract: what was handed in and what was answered, in order, leads the store from what it was to what it is.
+#![tactic(auto)]
+
+mod acceptor;
+mod reply;
+
+pub use acceptor::Acceptor;
+pub use reply::{Refusal, Reply};
