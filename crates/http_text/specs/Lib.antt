@@ -1,3 +1,4 @@
 pub mod Head
 pub mod HeadSteps
+pub mod Place
 pub mod Response

@@ -12,5 +12,5 @@
 mod head;
 mod response;
 
-pub use head::{HEAD_LIMIT, Head, HeadRead, LINE_LIMIT, read_head};
+pub use head::{HEAD_LIMIT, Head, HeadRead, LINE_LIMIT, Place, read_head, read_more};
 pub use response::{Response, write_response};
