@@ -1,4 +1,5 @@
 pub mod Answer
 pub mod Head
 pub mod HeadSteps
+pub mod Place
 pub mod Response

@@ -2,9 +2,11 @@
 
 mod fields;
 mod lines;
+mod place;
 mod read;
 
 use kn_base::Octets;
+pub use place::{Place, read_more};
 pub use read::{HEAD_LIMIT, HeadRead, LINE_LIMIT, read_head};
 
 /// What a request's head says.
