@@ -7,4 +7,3 @@ pub mod Fields
 pub mod Passed
 pub mod Settings
 pub mod Config
-pub mod Ranges

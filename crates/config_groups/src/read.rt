@@ -3,7 +3,6 @@
 ghost use Rattle.std.specs.Prelude.{◌≡◌, ◌⊎◌, ◌≤◌, IfOk, IfErr, IfSome, IsErrOf, option_map};
 ghost use Rattle.kn_base.specs.Count.{Rose};
 ghost use Rattle.config_groups.specs.Config as spec;
-ghost use Rattle.config_groups.specs.Ranges.{AreSettings};
 
 use crate::fault::first_fault;
 use crate::group::{Set, groups_of};
@@ -121,7 +120,6 @@ pub fn read_config<S: Shelf>(
     name: &[u8],
 ) -> Result<Settings, ConfigFault>
     ensures read { IfSome (S.files shelf.old) (λ all. spec.IsConfig all name.now (S.faults shelf.old) (S.faults shelf.new) result) }
-    ensures ranges { IfOk result AreSettings }
     ensures kept { S.files shelf.new ≡ S.files shelf.old }
     ensures missed { IsErrOf result ConfigFault.NoFile → Rose (S.faults shelf.old) (S.faults shelf.new) }
     ensures not_fewer { S.faults shelf.old ≤ S.faults shelf.new }

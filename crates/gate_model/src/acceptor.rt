@@ -23,7 +23,8 @@ pub trait Acceptor {
     ///
     /// `Accepted` where all of them are recorded. `NoRoute` where no link may carry one, `Full` where the queue has no room for
     /// them, `Memory` where there was none: then none is recorded. `Disk` where a disk call failed: then the count of faults
-    /// rose, and whether they are recorded isn't known. With any other answer that count stands still.
+    /// rose, whether they are recorded isn't known, and the store can only be closed. With any other answer that count stands still,
+    /// and more may be handed in.
     fn submit(&mut self, parts: Vec<Sms>, time: u64) -> Result<Reply, Refusal>
         requires ready { can_submit self.old }
         requires fits { MayBeHanded parts.items time }
@@ -31,7 +32,8 @@ pub trait Acceptor {
         ensures accepted { IfOk result IsAccepted }
         ensures disk { result ≡ Err Refusal.Disk → Rose (faults self.old) (faults self.new) }
         ensures spared { result ≢ Err Refusal.Disk → faults self.new ≡ faults self.old }
-        ensures kept { faults self.old ≤ faults self.new };
+        ensures kept { faults self.old ≤ faults self.new }
+        ensures ready { result ≢ Err Refusal.Disk → can_submit self.new };
 
     /// No deeds lead from a store to itself.
     ghost leads_nowhere: { (a : Self) → leads a [] a };

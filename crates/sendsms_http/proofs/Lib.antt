@@ -1,7 +1,7 @@
+pub mod Doings
+pub mod Endings
+pub mod Exchanges
 pub mod FormLemmas
 pub mod Handing
-pub mod Hearing
-pub mod RequestLemmas
-pub mod Requests
 pub mod SessionLemmas
-pub mod TargetLemmas
+pub mod Wishes

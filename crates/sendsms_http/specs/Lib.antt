@@ -1,7 +1,10 @@
 pub mod Form
+pub mod Ranges
 pub mod Reply
 pub mod Request
 pub mod Session
 pub mod SessionSteps
 pub mod Target
 pub mod Users
+pub mod Visit
+pub mod VisitSteps

@@ -1,41 +1,51 @@
--- What one session over HTTP comes to: at most one request is heard, it is answered, and the connection closes.
-use Rattle.std.specs.Prelude.{◌≡◌, ◌≢◌, ◌⊎◌, ℕ, ◌<◌, ◌≤◌, Bool, true, false, ◌||◌, List, [], ◌∷◌, ◌++◌, length, take, map, Option, Some, IfSome, Result, Ok, Err, IfOk, ⊤}
-use Rattle.std.specs.List.{concat}
-use Rattle.kn_base.specs.declared.piece.Piece.{Piece}
-use Rattle.kn_base.specs.declared.piece.Piece.TheVariants.{Heard}
+-- What one connection over HTTP comes to: requests are heard one behind the other, and each is answered, up to the first answer behind
+-- which the connection closes.
+use Rattle.std.specs.Prelude.{◌≡◌, ◌≢◌, ◌⊎◌, ℕ, ◌<◌, ◌≤◌, Bool, true, false, ◌||◌, List, [], ◌∷◌, ◌++◌, length, take, map, All, Option, Some, None, IfSome, Result, Ok, Err, IfOk, ⊤}
+use Rattle.std.specs.List.{concat, list_any}
+use Rattle.config_groups.specs.declared.settings.Settings.{Settings}
+use Rattle.gate_model.specs.Acceptor.{Deed, CountsFaults}
+use Rattle.gate_model.specs.Reply.{IsAccepted}
+use Rattle.gate_model.specs.declared.reply.Reply.{Reply}
+use Rattle.gate_model.specs.declared.reply.Refusal.{Refusal}
+use Rattle.http_text.specs.Answer.{reply_text}
+use Rattle.http_text.specs.Head.{head_limit, line_limit, head_of, NeverHas, NeedsMore, IsTooLong}
+use Rattle.http_text.specs.declared.answer.Answer.{Answer}
+use Rattle.http_text.specs.declared.answer.Answer.TheVariants.{BadRequest, OutOfMemory}
+use Rattle.http_text.specs.declared.answer.spot.Spot.TheVariants as spot_is
+use Rattle.http_text.specs.declared.head.Head.{Head}
+use Rattle.httparse.specs.Grammar.{RequestHead, IsRequestHead, print_request}
 use Rattle.kn_base.specs.Count.{Counts, Rose}
 use Rattle.kn_base.specs.Course.{Course, with_more}
 use Rattle.kn_base.specs.Talk.{said_of, heard_of}
+use Rattle.kn_base.specs.declared.piece.Piece.{Piece}
+use Rattle.kn_base.specs.declared.piece.Piece.TheVariants.{Heard}
 use Rattle.sms_record.specs.declared.sms.Sms.{Sms}
-use Rattle.sendsms_http.specs.declared.answer.Answer.{Answer}
-use Rattle.sendsms_http.specs.declared.answer.Answer.TheVariants.{BadRequest, OutOfMemory}
-use Rattle.sendsms_http.specs.declared.answer.spot.Spot.TheVariants.{NotBuilt}
-use Rattle.http_text.specs.declared.head.Head.{Head}
-use Rattle.sendsms_http.specs.declared.http_end.HttpEnd.{HttpEnd}
-use Rattle.sendsms_http.specs.declared.http_end.HttpEnd.TheVariants.{End, Fault, Quiet, Memory}
-use Rattle.sendsms_http.specs.declared.reply.Reply.{Reply}
-use Rattle.sendsms_http.specs.declared.reply.Refusal.{Refusal}
-use Rattle.sendsms_http.specs.Acceptor.{Deed, CountsFaults}
-use Rattle.sendsms_http.specs.Answer.{reply_text}
-use Rattle.http_text.specs.Head.{head_limit, BeginsWith, NeverHas, NeedsMore, IsTooLong}
-use Rattle.sendsms_http.specs.Reply.{IsAccepted, answer_of}
+use Rattle.sendsms_http.specs.Reply.{answer_of, is_failed}
 use Rattle.sendsms_http.specs.Request.{asked}
+use Rattle.sendsms_http.specs.declared.http_end.HttpEnd.{HttpEnd}
+use Rattle.sendsms_http.specs.declared.http_end.HttpEnd.TheVariants.{End, Fault, Quiet, Budget, Memory}
 
--- each of these takes was made where more octets were needed than were heard before it
-abbrev pub AreNeeded : List ℕ → List (List ℕ) → Type 0
-AreNeeded heard [] = ⊤
-AreNeeded heard (octets ∷ takes) = NeedsMore heard × AreNeeded (heard ++ octets) takes
+-- ---- one request and its answer
 
--- What was heard, take by take: each take was needed, and none went past the octets that are looked at.
-pub record IsHeard (takes : List (List ℕ)) : Type 0 where
-  pub needed : AreNeeded [] takes
-  pub within : length (concat takes) ≤ head_limit
+-- What was heard of a request, the reading at which it was read, what was handed in for it, its answer, and whether the connection closes
+-- behind that.
+pub record Exchange : Type 0 where
+  pub octets : List ℕ
+  pub times : List ℕ
+  pub deeds : List Deed
+  pub answer : Answer
+  pub close : Bool
 
--- What was heard is no request, and nothing more is waited for: no head can come, or as many octets as are looked at were
--- heard; or more were needed, and the input ended.
-abbrev pub IsNoRequest : List ℕ → Bool → Type 0
-IsNoRequest heard false = NeverHas heard ⊎ IsTooLong heard
-IsNoRequest heard true = NeedsMore heard
+-- the octets of its answer
+abbrev pub text_of : Exchange → List ℕ
+text_of exchange = reply_text exchange.answer exchange.close
+
+-- The octets are one head.
+pub record IsHead (octets : List ℕ) (request : RequestHead) : Type 0 where
+  pub octets : octets ≡ print_request request
+  pub form : IsRequestHead request
+  pub few : length request.fields ≤ line_limit
+  pub short : length octets ≤ head_limit
 
 -- what a request came to by what it asks, at a reading: a refusal, or the parts were handed in, and the outcome decides: they were
 -- accepted or refused
@@ -49,77 +59,142 @@ ComesTo (Ok parts) now deeds answer =
 abbrev pub IsOutOfMemory : List Deed → Answer → Type 0
 IsOutOfMemory deeds answer = (deeds ≡ []) × (answer ≡ OutOfMemory)
 
--- A refusal of octets that are no request: nothing is handed in, and the clock isn't read.
-pub record RefusesForm (heard : List ℕ) (ended : Bool) (readings : List ℕ) (deeds : List Deed) (answer : Answer) : Type 0 where
-  pub some : heard ≢ []
-  pub no_request : IsNoRequest heard ended
-  pub answered : answer ≡ BadRequest NotBuilt
-  pub no_reading : readings ≡ []
-  pub no_deed : deeds ≡ []
+-- the answers behind which the connection closes in any case
+abbrev pub closes_always : Answer → Bool
+closes_always (BadRequest spot_is.Head) = true
+closes_always OutOfMemory = true
+closes_always answer = false
 
--- The answer to a request: the clock is read once, and what the head asks at that reading decides, but for want of memory.
-pub record AnswersRequest (heard : List ℕ) (ended : Bool) (readings : List ℕ) (deeds : List Deed) (answer : Answer) : Type 0 where
-  pub head : Head
-  pub stands : BeginsWith heard head
-  pub at_once : ended ≡ false
+-- the connection closes behind the answer to a request: it says so, or a body follows that wasn't read, or by the answer, or because the
+-- disk failed
+abbrev pub closes : Head → List Deed → Answer → Bool
+closes head deeds answer = (head.close || head.body) || (closes_always answer || list_any (λ deed. is_failed deed.outcome) deeds)
+
+-- A request was read at one reading of the clock, and what it asks at that decided its answer, but for want of memory.
+pub record AnswersRequest (settings : Settings) (exchange : Exchange) : Type 0 where
+  pub request : RequestHead
+  pub head : IsHead exchange.octets request
   pub now : ℕ
-  pub reading : readings ≡ now ∷ []
-  pub comes_to : ComesTo (asked head now) now deeds answer ⊎ IsOutOfMemory deeds answer
+  pub time : exchange.times ≡ now ∷ []
+  pub comes_to : ComesTo (asked settings (head_of request) now) now exchange.deeds exchange.answer ⊎ IsOutOfMemory exchange.deeds exchange.answer
+  pub close : exchange.close ≡ closes (head_of request) exchange.deeds exchange.answer
 
--- There was no memory for what was heard: the clock isn't read.
-pub record WantsMemory (heard : List ℕ) (ended : Bool) (readings : List ℕ) (deeds : List Deed) (answer : Answer) : Type 0 where
-  pub some : heard ≢ []
-  pub at_once : ended ≡ false
-  pub no_reading : readings ≡ []
-  pub out_of_memory : IsOutOfMemory deeds answer
+-- the octets are no request, and nothing more is waited for: no head can come, or as many octets as are looked at were heard; or more
+-- were needed, and the input ended
+abbrev pub IsNoRequest : List ℕ → Bool → Type 0
+IsNoRequest octets false = NeverHas octets ⊎ IsTooLong octets
+IsNoRequest octets true = NeedsMore octets
 
--- the answer to what was heard, with the readings and the deeds that it took
-abbrev pub Answers : List ℕ → Bool → List ℕ → List Deed → Answer → Type 0
-Answers heard ended readings deeds answer =
-    RefusesForm heard ended readings deeds answer
-    ⊎ (AnswersRequest heard ended readings deeds answer ⊎ WantsMemory heard ended readings deeds answer)
+-- Some octets that are no request were refused.
+pub record RefusesOctets (ended : Bool) (exchange : Exchange) : Type 0 where
+  pub some : exchange.octets ≢ []
+  pub no_request : IsNoRequest exchange.octets ended
+  pub answered : exchange.answer ≡ BadRequest spot_is.Head
+
+-- Octets for which there was no memory.
+pub record WantsMemory (exchange : Exchange) : Type 0 where
+  pub some : exchange.octets ≢ []
+  pub answered : exchange.answer ≡ OutOfMemory
+
+-- Octets that were not read as a request, behind whose answer the connection closes.
+pub record AnswersOctets (ended : Bool) (exchange : Exchange) : Type 0 where
+  pub cause : RefusesOctets ended exchange ⊎ WantsMemory exchange
+  pub no_time : exchange.times ≡ []
+  pub no_deed : exchange.deeds ≡ []
+  pub close : exchange.close ≡ true
+
+-- whatever was answered; ended says whether the input ended
+abbrev pub IsExchange : Settings → Bool → Exchange → Type 0
+IsExchange settings ended exchange = AnswersRequest settings exchange ⊎ AnswersOctets ended exchange
+
+-- a request behind whose answer the connection was kept
+abbrev pub IsKept : Settings → Exchange → Type 0
+IsKept settings exchange = AnswersRequest settings exchange × (exchange.close ≡ false)
+
+-- ---- several of them
+
+-- the exchanges, with the last one
+abbrev pub with_last : List Exchange → Option Exchange → List Exchange
+with_last exchanges None = exchanges
+with_last exchanges (Some last) = exchanges ++ last ∷ []
+
+-- what was heard, said, read and handed in, one exchange behind the other
+abbrev pub heard_in : List Exchange → List ℕ
+heard_in exchanges = concat (map (λ exchange. exchange.octets) exchanges)
+
+abbrev pub said_in : List Exchange → List ℕ
+said_in exchanges = concat (map text_of exchanges)
+
+abbrev pub times_in : List Exchange → List ℕ
+times_in exchanges = concat (map (λ exchange. exchange.times) exchanges)
+
+abbrev pub deeds_in : List Exchange → List Deed
+deeds_in exchanges = concat (map (λ exchange. exchange.deeds) exchanges)
+
+-- the times are some of the readings, in their order
+abbrev pub AreAmong : List ℕ → List ℕ → Type 0
+AreAmong [] readings = ⊤
+AreAmong (time ∷ times) [] = ⊥
+AreAmong (time ∷ times) (reading ∷ readings) = ((time ≡ reading) × AreAmong times readings) ⊎ AreAmong (time ∷ times) readings
+
+-- ---- the end
 
 -- the octets are a front of the text, and not all of it
 abbrev pub IsCutShort : List ℕ → List ℕ → Type 0
 IsCutShort octets text = (gone : ℕ) × (gone < length text) × (octets ≡ take gone text)
 
--- what was said of an answer's text, by the end of the session
-abbrev pub SaysSo : HttpEnd → List ℕ → List ℕ → Type 0
-SaysSo End text said = said ≡ text
-SaysSo Fault text said = IsCutShort said text
-SaysSo Quiet text said = ⊥
-SaysSo Memory text said = IsCutShort said text
+-- what was said of the last answer, by the end: all of it, and the connection closes behind it; or giving it failed
+abbrev pub SaysLast : HttpEnd → Exchange → List ℕ → Type 0
+SaysLast End last said = (last.close ≡ true) × (said ≡ text_of last)
+SaysLast Fault last said = IsCutShort said (text_of last)
+SaysLast Quiet last said = ⊥
+SaysLast (Budget taken) last said = ⊥
+SaysLast Memory last said = IsCutShort said (text_of last)
 
--- the input was cut off where more was needed
-abbrev pub IsCutOff : List ℕ → Bool → Type 0
-IsCutOff heard ended = NeedsMore heard × (ended ≡ false)
-
--- why nothing was said: there was no input at all, or a take was quiet or failed where more was needed
+-- why nothing more is said to what is left: nothing is, and the input ended; or a take was quiet or failed where more was needed, or was
+-- no more made
 abbrev pub IsSilence : HttpEnd → List ℕ → Bool → Type 0
-IsSilence End heard ended = (heard ≡ []) × (ended ≡ true)
-IsSilence Fault heard ended = IsCutOff heard ended
-IsSilence Quiet heard ended = IsCutOff heard ended
-IsSilence Memory heard ended = IsCutOff heard ended
+IsSilence End rest ended = (rest ≡ []) × (ended ≡ true)
+IsSilence end rest ended = NeedsMore rest × (ended ≡ false)
 
--- Nothing was said, read or handed in.
-pub record Silent (heard said : List ℕ) (ended : Bool) (readings : List ℕ) (deeds : List Deed) (end : HttpEnd) : Type 0 where
-  pub silence : IsSilence end heard ended
-  pub no_word : said ≡ []
-  pub no_reading : readings ≡ []
-  pub no_deed : deeds ≡ []
+-- What was said last, behind the answers that were said whole; rest is what was heard behind all exchanges.
+abbrev pub EndsSo : HttpEnd → Option Exchange → List ℕ → Bool → List ℕ → Type 0
+EndsSo end (Some last) rest ended said = SaysLast end last said
+EndsSo end None rest ended said = IsSilence end rest ended × (said ≡ [])
 
--- An answer was said, or a front of it, and the connection closes.
-pub record Answered (heard said : List ℕ) (ended : Bool) (readings : List ℕ) (deeds : List Deed) (end : HttpEnd) : Type 0 where
-  pub answer : Answer
-  pub answers : Answers heard ended readings deeds answer
-  pub says : SaysSo end (reply_text answer true) said
+-- The talk of a connection. What was heard is the octets of its exchanges in order, and a rest: a connection was kept behind each but the last. What was
+-- said is their answers, of which the last may be cut. Each request was read at a reading of the clock of its own, in order, and what was
+-- handed in was handed in for them.
+pub record HttpTalk (settings : Settings) (heard said : List ℕ) (ended : Bool) (readings : List ℕ) (deeds : List Deed) (end : HttpEnd) : Type 0 where
+  pub kept : List Exchange
+  pub last : Option Exchange
+  pub rest : List ℕ
+  pub said_last : List ℕ
+  pub kept_each : All (IsKept settings) kept
+  pub last_one : IfSome last (IsExchange settings ended)
+  pub heard : heard ≡ heard_in (with_last kept last) ++ rest
+  pub said : said ≡ said_in kept ++ said_last
+  pub timed : AreAmong (times_in (with_last kept last)) readings
+  pub handed_in : deeds ≡ deeds_in (with_last kept last)
+  pub ends : EndsSo end last rest ended said_last
 
--- The talk of a session: what each take gave, whether the input ended behind them, what was said then, the clock's readings
--- and the store's deeds.
-pub record HttpTalk
-    (takes : List (List ℕ)) (ended : Bool) (said readings : List ℕ) (deeds : List Deed) (end : HttpEnd) : Type 0 where
-  pub heard : IsHeard takes
-  pub comes_to : Silent (concat takes) said ended readings deeds end ⊎ Answered (concat takes) said ended readings deeds end
+-- ---- what was heard and said in turn
+
+-- Of what was heard, all requests were answered, and their answers were said; what is left needs more.
+pub record IsUpToDate (settings : Settings) (before : List Piece) : Type 0 where
+  pub kept : List Exchange
+  pub kept_each : All (IsKept settings) kept
+  pub left : List ℕ
+  pub heard : heard_of before ≡ heard_in kept ++ left
+  pub said : said_of before ≡ said_in kept
+  pub needs_more : NeedsMore left
+
+-- nothing was heard before what came before it was dealt with
+abbrev pub IsPrompt : Settings → List Piece → Type 0
+IsPrompt settings pieces =
+    (before after : List Piece) (octets : List ℕ) → pieces ≡ before ++ Heard octets ∷ after → octets ≢ [] → IsUpToDate settings before
+
+-- ---- one connection
 
 -- no count of the peer fell
 pub record NoneFell (old new : Counts) : Type 0 where
@@ -132,17 +207,24 @@ abbrev pub IsCaused : HttpEnd → Counts → Counts → Type 0
 IsCaused End old new = new ≡ record old { ended = new.ended }
 IsCaused Fault old new = Rose old.faults new.faults
 IsCaused Quiet old new = Rose old.quiets new.quiets
+IsCaused (Budget taken) old new = new ≡ record old { ended = new.ended }
 IsCaused Memory old new = Rose old.starved new.starved
 
--- What a session did to its peer: takes, and behind them the pieces of an answer, in which nothing is heard. They are a talk.
-pub record Talks (old new : Course) (readings : List ℕ) (deeds : List Deed) (end : HttpEnd) : Type 0 where
-  pub takes : List (List ℕ)
-  pub answer : List Piece
+-- so many octets were heard, as many as may be
+abbrev pub IsSpent : HttpEnd → ℕ → ℕ → Type 0
+IsSpent (Budget taken) budget heard = (taken ≡ budget) × (heard ≡ budget)
+IsSpent end budget heard = ⊤
+
+-- What a session did to its peer.
+pub record Talks (settings : Settings) (budget : ℕ) (old new : Course) (readings : List ℕ) (deeds : List Deed) (end : HttpEnd) : Type 0 where
+  pub pieces : List Piece
   pub ended : Bool
-  pub pieces : new.talk ≡ with_more old.talk (map Heard takes ++ answer)
-  pub nothing_heard : heard_of answer ≡ []
+  pub told : new.talk ≡ with_more old.talk pieces
   pub input_ended : new.counts.ended ≡ (ended || old.counts.ended)
-  pub talk : HttpTalk takes ended (said_of answer) readings deeds end
+  pub talk : HttpTalk settings (heard_of pieces) (said_of pieces) ended readings deeds end
+  pub prompt : IsPrompt settings pieces
+  pub within : length (heard_of pieces) ≤ budget
+  pub spent : IsSpent end budget (length (heard_of pieces))
   pub fell : NoneFell old.counts new.counts
   pub caused : IsCaused end old.counts new.counts
 
@@ -153,10 +235,10 @@ AddsAll readings old new = IfSome new (λ now. (before : List ℕ) × (old ≡ S
 -- One session: what it did to its peer, the clock and the store.
 pub record Serves
     {S : Type 0} (leads : S → List Deed → S → Type 0) (faults : S → ℕ) (store later : S)
-    (old new : Course) (told tells : Option (List ℕ)) (end : HttpEnd) : Type 0 where
+    (settings : Settings) (budget : ℕ) (old new : Course) (told tells : Option (List ℕ)) (end : HttpEnd) : Type 0 where
   pub readings : List ℕ
   pub deeds : List Deed
-  pub peer : Talks old new readings deeds end
+  pub peer : Talks settings budget old new readings deeds end
   pub clock : AddsAll readings told tells
   pub led : leads store deeds later
   pub counts : CountsFaults (faults store) (faults later) deeds

@@ -2,9 +2,10 @@
 
 ghost use Rattle.std.specs.Prelude.{◌≡◌};
 ghost use Rattle.sendsms_http.specs.Reply as spec;
+ghost use Rattle.sendsms_http.specs.Session as session;
 
 use gate_model::{Refusal, Reply};
-use http_text::Answer;
+use http_text::{Answer, Spot};
 
 /// The answer to a request whose messages a store answered so: 202 where it accepted them, 403 where no link may carry them,
 /// 503 where the queue is full or a disk call failed, 500 where there was no memory.
@@ -18,4 +19,21 @@ pub fn answer_of(outcome: Result<Reply, Refusal>) -> Answer
         Err(Refusal::NoRoute { .. }) => Answer::NotRoutable,
         Err(Refusal::Memory) => Answer::OutOfMemory,
     }
+}
+
+// Whether the messages were refused because the disk failed.
+pub(crate) fn is_failed(outcome: Result<Reply, Refusal>) -> bool
+    ensures { result ≡ spec.is_failed outcome }
+{
+    matches!(outcome, Err(Refusal::Disk))
+}
+
+// Whether the connection closes behind the answer, whatever was asked.
+pub(crate) fn closes_always(answer: Answer) -> bool
+    ensures { result ≡ session.closes_always answer }
+{
+    matches!(
+        answer,
+        Answer::BadRequest(Spot::Head) | Answer::OutOfMemory
+    )
 }

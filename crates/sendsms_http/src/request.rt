@@ -1,7 +1,7 @@
 //! What a request asks for: the parts of a message, or the answer that refuses it.
 
 ghost use Rattle.std.specs.Prelude.{◌≡◌, ◌<◌, ◌≤◌, ◌^◌, ◌⊎◌, [], ◌∷◌, IfOk, IfErr, All, length};
-ghost use Rattle.config_groups.specs.Ranges.{AreSettings, IsUser};
+ghost use Rattle.sendsms_http.specs.Ranges.{AreSettings, IsUser};
 ghost use Rattle.sms_record.specs.Record.{IsSms};
 ghost use Rattle.sendsms_http.specs.Form.{pairs};
 ghost use Rattle.sendsms_http.specs.Request as spec;

@@ -1,82 +1,88 @@
-//! One session over HTTP: a request is heard and answered, and the connection closes.
+//! One connection over HTTP: what its visit wishes is done.
 
-ghost use Rattle.std.specs.Prelude.{true};
-ghost use Rattle.sendsms_http.specs.Acceptor.{MayBeHanded};
-ghost use Rattle.sendsms_http.specs.Answer.{reply_text};
+ghost use Rattle.std.specs.Prelude.{◌≡◌, ◌<◌, ◌≤◌, ◌^◌};
+ghost use Rattle.sendsms_http.specs.Ranges.{AreSettings};
+ghost use Rattle.http_text.specs.Answer.{reply_text};
 ghost use Rattle.sendsms_http.specs.Session.{Serves};
 ghost use Rattle.sendsms_http.specs.SessionSteps as spec;
 
-mod hearing;
-
-use crate::http_end::{HttpEnd, end_of_failure};
-use crate::{Acceptor, Answer, Spot, answer_of, asked, write_answer};
-use hearing::{Listened, listen};
-use http_text::Head;
-use kn_base::{Clock, Peer, Sink, Wrote};
-use sms_record::Sms;
+use crate::http_end::end_of;
+use crate::{HttpEnd, Visit, VisitGiven, VisitWish};
+use config_groups::Settings;
+use gate_model::Acceptor;
+use http_text::{Answer, write_answer};
+use kn_base::{Clock, Memory, Octets, Peer, Sink, Source, Take, Wrote};
 use std::alloc::Global;
 
-/// Serves one session over HTTP: hears one request, hands its message to the store, answers and is done. Each answer closes.
+// How many octets are taken at once.
+const PIECE_LIMIT: u64 = 4_096;
+
+/// Serves one connection over HTTP: hears requests, hands the messages that they ask for to the store, and answers each, up to the first
+/// answer behind which the connection closes. At most `budget` octets are taken.
 ///
-/// 400 where what was heard is no request, or one that isn't served. Where it is one the clock is read once, and the message is
-/// handed in at that reading; the store's outcome decides between 202, 403 and 503. 500 is want of memory.
-/// `Fault` where a take or a give failed, `Quiet` where nothing came in time, `Memory` where a take or a give found no memory.
+/// The clock is read at each step. 500 is want of memory. `End` where an answer closed the connection, or where the input
+/// ended; an end within a head is answered first. `Fault` where a take or a give failed, `Quiet` where nothing came in time, `Memory` where
+/// a take or a give found no memory, `Budget` where as many octets were taken as may be and no end came.
 pub fn serve_http<A: Acceptor, P: Peer, C: Clock>(
     alloc: Global,
+    settings: &Settings,
     acceptor: &mut A,
     peer: &mut P,
     clock: &mut C,
+    budget: u64,
 ) -> HttpEnd
-    requires { A.can_submit acceptor.old }
-    ensures { Serves A.leads A.faults acceptor.old acceptor.new (P.course peer.old) (P.course peer.new)
+    requires ready { A.can_submit acceptor.old }
+    requires in_range { AreSettings settings.now }
+    ensures { Serves A.leads A.faults acceptor.old acceptor.new settings.now budget (P.course peer.old) (P.course peer.new)
         (C.readings clock.old) (C.readings clock.new) result }
 {
-    match listen(alloc, peer) {
-        Listened::Request(head) => {
-            let answer = answer_request(alloc, acceptor, clock, &head);
-            say(peer, answer)
-        }
-        Listened::NoRequest => say(peer, Answer::BadRequest(Spot::NotBuilt)),
-        Listened::Lost => say(peer, Answer::OutOfMemory),
-        Listened::Nothing => HttpEnd::End,
-        Listened::Stopped(end) => end,
+    let starved = peer.starved();
+    let mut visit = Visit::new(alloc, budget);
+    let mut given = VisitGiven::Begin;
+    loop {
+        given = match visit.next(settings, given, clock.now()) {
+            VisitWish::Listen => match hear(alloc, peer, visit.room()) {
+                Ok(given) => given,
+                Err(Memory) => return lost(peer, starved),
+            },
+            VisitWish::Submit { time, parts } => VisitGiven::Answered(acceptor.submit(parts, time)),
+            VisitWish::Say { answer, close } => say(peer, answer, close),
+            VisitWish::Over(end) => return end_of(end, starved, peer.starved()),
+        };
     }
 }
 
-// The answer to a request: its message is handed in at a reading of the clock.
-fn answer_request<A: Acceptor, C: Clock>(
-    alloc: Global,
-    acceptor: &mut A,
-    clock: &mut C,
-    head: &Head,
-) -> Answer
-    requires { A.can_submit acceptor.old }
-    ensures { spec.RequestComesTo A.leads A.faults acceptor.old acceptor.new
-        (C.readings clock.old) (C.readings clock.new) head.now result }
+// Takes the next octets, at most so many.
+fn hear<S: Source>(alloc: Global, source: &mut S, room: u64) -> Result<VisitGiven, Memory>
+    requires { 0 < room }
+    ensures { spec.HearsSo room (S.course source.old) result (S.course source.new) }
 {
-    let now = clock.now();
-    match asked(alloc, head, now) {
-        Ok(parts) => hand_in(acceptor, parts, now),
-        Err(answer) => answer,
+    let mut buffer = [0; PIECE_LIMIT as usize];
+    let most = PIECE_LIMIT.min(room) as usize;
+    match source.take(&mut buffer[..most]) {
+        Take::Bytes(taken) => Ok(VisitGiven::Heard(Octets::from_slice(alloc, &buffer[..taken])?)),
+        Take::End => Ok(VisitGiven::End),
+        Take::Quiet => Ok(VisitGiven::Quiet),
+        Take::Failed => Ok(VisitGiven::Fault),
     }
 }
 
-// Hands in the parts of a message, and gives the answer that the store's outcome is.
-fn hand_in<A: Acceptor>(acceptor: &mut A, parts: Vec<Sms>, now: u64) -> Answer
-    requires ready { A.can_submit acceptor.old }
-    requires fits { MayBeHanded parts.items now }
-    ensures { spec.HandsIn A.leads A.faults acceptor.old acceptor.new parts.items now result }
+// Octets were heard for which there was no memory: says so, and ends.
+fn lost<S: Sink>(sink: &mut S, starved: u64) -> HttpEnd
+    ensures { spec.SaysLost starved (S.course sink.old) result (S.course sink.new) }
 {
-    answer_of(acceptor.submit(parts, now))
-}
-
-// Says an answer, behind which the connection closes.
-fn say<S: Sink>(sink: &mut S, answer: Answer) -> HttpEnd
-    ensures { spec.Says result (reply_text answer true) (S.course sink.old) (S.course sink.new) }
-{
-    let starved = sink.starved();
-    match write_answer(sink, answer, true) {
+    match write_answer(sink, Answer::OutOfMemory, true) {
         Wrote::All => HttpEnd::End,
-        Wrote::Failed { .. } => end_of_failure(starved, sink.starved()),
+        Wrote::Failed { .. } => end_of(HttpEnd::Fault, starved, sink.starved()),
+    }
+}
+
+// Says an answer.
+fn say<S: Sink>(sink: &mut S, answer: Answer, close: bool) -> VisitGiven
+    ensures { spec.SaysSo (reply_text answer close) (S.course sink.old) result (S.course sink.new) }
+{
+    match write_answer(sink, answer, close) {
+        Wrote::All => VisitGiven::Said,
+        Wrote::Failed { .. } => VisitGiven::SayFault,
     }
 }

@@ -1,7 +1,7 @@
 //! One connection over HTTP by itself, without its peer and without the store.
 
 ghost use Rattle.std.specs.Prelude.{◌≡◌, ◌<◌, ◌≤◌, ◌+◌, ◌^◌, ◌++◌, [], true, false, drop, length, take};
-ghost use Rattle.config_groups.specs.Ranges.{AreSettings};
+ghost use Rattle.sendsms_http.specs.Ranges.{AreSettings};
 ghost use Rattle.http_text.specs.Head.{NeedsMore};
 ghost use Rattle.sendsms_http.specs.Visit as spec;
 
@@ -84,6 +84,7 @@ enum Phase {
 /// ```
 ///
 /// Where more is needed and as many octets were given as may be, it is `Over(Budget)` in place of `Listen`.
+#[derive(Drop)]
 pub struct Visit {
     alloc: Global,
     /// The most octets that it is given.
