@@ -13,12 +13,12 @@ use Rattle.gate_store.specs.Accepts.{entries, messages}
 use Rattle.gate_store.specs.StoreSteps.{CountsIn}
 
 -- The entries so far are those in front of what is left to hand out, and they and their messages are counted.
-pub record HasLoaded {D : Type 0} (tells : Bool) (contents : D → Areas) (first now : Journal D) (waiting entries_so_far : ℕ) : Type 0 where
+pub record HasLoaded {D : Type 0} (tells : Bool) (contents : D → Areas) (first now : Journal D) (waiting so_far : ℕ) : Type 0 where
   pub accepts : List Accept
   pub split : left first ≡ entries accepts ++ left now
   pub each : All IsAccept accepts
-  pub waiting : waiting ≡ min (messages accepts) last_count
-  pub counted : entries_so_far ≡ min (length accepts) last_count
+  pub summed : waiting ≡ min (messages accepts) last_count
+  pub counted : so_far ≡ min (length accepts) last_count
   pub journal : IsJournal tells contents now (birth_of first) (left first)
   pub disk : disk_of now ≡ disk_of first
 
@@ -29,7 +29,7 @@ HasLoaded-nil tells contents first is = record {
   accepts = [];
   split = refl;
   each = All-nil IsAccept;
-  waiting = refl;
+  summed = refl;
   counted = refl;
   journal = is;
   disk = refl;
@@ -46,7 +46,7 @@ HasLoaded-more tells contents first now next waiting count more so_far with_it p
       ∙ sym (append_assoc (entries h.accepts) (accept_octets accept ∷ []) (left next))
       ∙ ap (λ x. x ++ left next) (sym (map-append accept_octets h.accepts (accept ∷ [])));
   each = All-push IsAccept h.accepts accept h.each is;
-  waiting = omega (arith, sum, counted, h.waiting, sum_by-append (λ (a : Accept). length a.parts) h.accepts (accept ∷ []));
+  summed = omega (arith, sum, counted, h.summed, sum_by-append (λ (a : Accept). length a.parts) h.accepts (accept ∷ []));
   counted = omega (arith, one, h.counted, length-append h.accepts (accept ∷ []));
   journal = same (birth_of first) (left first) h.journal;
   disk = disk ∙ h.disk;

@@ -84,7 +84,7 @@ module _ {D : Type 0} (tells : Bool) (contents : D → Areas) (faults : D → �
     holds = loads.holds;
     stood = told_weaker tells _ _ (stands_for (stands (contents disk)) birth (birth_of journal) (area_of journal) (left journal) loads.accepts loads.handed) stood;
     born = told_weaker tells _ _ (born_with (stands (contents disk)) birth (birth_of journal) (area_of journal) (left journal)) stood;
-    limit = loads.limit;
+    limited = loads.limited;
     unfailed = ap faults loads.disk ∙ unfailed;
   }
 

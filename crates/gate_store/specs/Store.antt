@@ -48,7 +48,7 @@ module _ {D : Type 0} where
     pub holds : IsStore tells contents store there accepts
     pub stood : OnTrue tells (StandsFor (stands areas) there accepts)
     pub born : OnTrue tells (stands areas ≡ unborn → there ≡ birth)
-    pub limit : limit_in store ≡ limit
+    pub limited : limit_in store ≡ limit
     pub unfailed : faults (disk_in store) ≡ before
 
   -- Why no store was opened on such a disk, and what it holds then: it holds none, a call of it failed, or memory was wanting. No

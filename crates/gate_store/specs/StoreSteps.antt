@@ -25,7 +25,7 @@ module _ {D : Type 0} (tells : Bool) (contents : D → Areas) where
   -- What was left of a journal to hand out is the entries that the store holds, on the same disk; so many messages may wait.
   pub record Loads (limit : ℕ) (journal : Journal D) (store : Store D) : Type 0 where
     pub accepts : List Accept
-    pub limit : limit_in store ≡ limit
+    pub limited : limit_in store ≡ limit
     pub handed : left journal ≡ entries accepts
     pub holds : IsStore tells contents store (birth_of journal) accepts
     pub disk : disk_in store ≡ disk_of journal

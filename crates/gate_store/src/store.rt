@@ -40,12 +40,7 @@ impl<D: Disk> Store<D> {
     ///
     /// `Foreign` where what the disk holds is no store, `Disk` exactly where a disk call failed, `Memory` where there was none. Each
     /// fault gives the disk back; unless it is `Disk`, nothing that was stored is lost.
-    pub fn open(
-        alloc: Global,
-        disk: D,
-        limit: u64,
-        birth: u64,
-    ) -> Result<Store<D>, (D, StoreFault)>
+    pub fn open(alloc: Global, disk: D, limit: u64, birth: u64) -> Result<Store<D>, (D, StoreFault)>
         ensures ok { IfOk result (IsOpened D.tells D.contents D.faults (D.contents disk) (D.faults disk) limit birth) }
         ensures err { IfErr result (λ fault. IsUnopened D.tells D.contents D.faults (D.contents disk) (D.faults disk) birth fault.0 fault.1) }
     {

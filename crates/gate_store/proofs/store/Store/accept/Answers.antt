@@ -1,6 +1,6 @@
-use Rattle.std.proofs.Common.{◌≡◌, ◌+◌, ◌≤◌, length, true, refl, ap, arith}
+use Rattle.std.proofs.Common.{◌≡◌, ◌+◌, ◌≤◌, length, true, ap, ◌∙◌, arith}
 use Rattle.gate_model.specs.declared.reply.Reply.TheVariants.{Accepted}
-use Rattle.kn_base.specs.Count.{last_count}
+use Rattle.kn_base.specs.Count.{last_count, next_count}
 use Rattle.gate_store.proofs.Accepting.{one_more}
 use Rattle.gate_store.proofs.store.Store.accept.Goals as goal
 
@@ -12,9 +12,9 @@ returns g c =
     record {
       whole = c.requires.kept.2.journal.whole;
       reason = (room, ap (λ n. Accepted (c.args.self.now.waiting + 1) n true) c.len-count.ensures);
-      limit = refl;
+      limit = ap (λ s. s.limit) c.append_entry.ensures.same;
       gains = λ _. one_more g.D.Disk.tells g.D.Disk.contents c.args.self.now _ c.args.accept.now c.requires.fits.accept
-          c.in_ok-append_entry.ensures.ok c.append_entry.ensures.handed_out below sum c.raised.ensures.value;
+          c.in_ok-append_entry.ensures.ok c.append_entry.ensures.handed_out below sum (c.raised-self.ensures.value ∙ ap (λ s. next_count s.entries) c.append_entry.ensures.same);
       broken = c.in_ok-append_entry.ensures.broken;
       counted = c.in_ok-append_entry.ensures.counted;
     }
