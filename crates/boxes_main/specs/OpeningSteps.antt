@@ -34,7 +34,7 @@ module _
     pub others : new ≡ record old { shelf = new.shelf }
     pub configured : IsConfigured files shelf_faults name old.shelf new.shelf settings
     pub in_range : AreSettings settings
-    pub store : OpensStore tells contents faults settings before after store
+    pub opens : OpensStore tells contents faults settings before after store
 
   -- No store stands open.
   pub record OpensNothing (failure : Failure) (disk : Option D) : Type 0 where

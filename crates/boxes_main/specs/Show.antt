@@ -53,7 +53,7 @@ module _ {D : Type 0} (tells : Bool) (contents : D → Areas) (faults : D → �
     pub prints : Prints (show_text (totals_of accepts)) fault old new
     pub after : D
     pub handed_back : disk ≡ Some after
-    pub stands : OnTrue tells (StandsFor (stands (contents after)) birth accepts)
+    pub stood : OnTrue tells (StandsFor (stands (contents after)) birth accepts)
     pub unfailed : faults after ≡ 0
 
 module _

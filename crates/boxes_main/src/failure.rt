@@ -1,12 +1,12 @@
 //! Why a command ends with another status than 0, and what it says of that.
 
-ghost use Rattle.std.specs.Prelude.{◌≡◌, ◌++◌, Result};
+ghost use Rattle.std.specs.Prelude.{◌≡◌, ◌++◌, ◌∷◌, [], decimal};
 ghost use Rattle.boxes_main.specs.Failure.{row_of, status_of, Tells};
 ghost use Rattle.boxes_main.specs.Giving.{GivesText};
 ghost use Rattle.boxes_main.specs.Lines.{text_in};
 
 use crate::command::USAGE;
-use crate::giving::{Cut, give_pieces};
+use crate::giving::{Cut, give, give_two};
 use crate::{OutputFault, SessionFault};
 use config_groups::ConfigFault;
 use gate_store::StoreFault;
@@ -113,8 +113,9 @@ fn give_numbered<S: Sink>(
     ensures { GivesText (front.now ++ decimal number ++ between.now ++ behind.now ++ 10 ∷ []) result (S.course errors.old) (S.course errors.new) }
 {
     let mut digits = Buffer::new();
-    let number = digits.format(number).as_bytes();
-    give_pieces(errors, &[front, number, between, behind, b"\n"])
+    give_two(errors, front, digits.format(number).as_bytes())?;
+    give_two(errors, between, behind)?;
+    give(errors, b"\n")
 }
 
 /// Gives a line.
@@ -122,7 +123,7 @@ fn give_line<S: Sink>(errors: &mut S, line: Line) -> Result<(), Cut>
     ensures { GivesText (text_in line.entry) result (S.course errors.old) (S.course errors.new) }
 {
     match line {
-        Line::Text(text) => give_pieces(errors, &[text]),
+        Line::Text(text) => give(errors, text),
         Line::Place { file, line } => {
             let mut digits = Buffer::new();
             give_numbered(

@@ -1,7 +1,6 @@
 //! Giving a text in pieces, without taking memory.
 
-ghost use Rattle.std.specs.Prelude.{map};
-ghost use Rattle.std.specs.List.{concat};
+ghost use Rattle.std.specs.Prelude.{◌++◌};
 ghost use Rattle.boxes_main.specs.Giving.{GivesText};
 
 use kn_base::{Sink, Wrote, write_all};
@@ -11,7 +10,7 @@ use kn_base::{Sink, Wrote, write_all};
 pub struct Cut;
 
 /// Gives all of one piece.
-fn give<S: Sink>(sink: &mut S, piece: &[u8]) -> Result<(), Cut>
+pub(crate) fn give<S: Sink>(sink: &mut S, piece: &[u8]) -> Result<(), Cut>
     ensures { GivesText piece.now result (S.course sink.old) (S.course sink.new) }
 {
     match write_all(sink, piece) {
@@ -20,12 +19,10 @@ fn give<S: Sink>(sink: &mut S, piece: &[u8]) -> Result<(), Cut>
     }
 }
 
-/// Gives all of the pieces, one behind the other.
-pub(crate) fn give_pieces<S: Sink>(sink: &mut S, pieces: &[&[u8]]) -> Result<(), Cut>
-    ensures { GivesText (concat (map (λ piece. piece.now) pieces.now)) result (S.course sink.old) (S.course sink.new) }
+/// Gives all of two pieces, one behind the other.
+pub(crate) fn give_two<S: Sink>(sink: &mut S, first: &[u8], second: &[u8]) -> Result<(), Cut>
+    ensures { GivesText (first.now ++ second.now) result (S.course sink.old) (S.course sink.new) }
 {
-    for piece in pieces {
-        give(sink, piece)?;
-    }
-    Ok(())
+    give(sink, first)?;
+    give(sink, second)
 }

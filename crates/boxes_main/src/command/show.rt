@@ -1,6 +1,6 @@
 //! The command `show`: what the store counts, on standard output.
 
-ghost use Rattle.std.specs.Prelude.{◌≡◌, ◌↔◌, [], Some, None, codes, map};
+ghost use Rattle.std.specs.Prelude.{◌≡◌, ◌↔◌, ℕ, [], Some, None, codes, map};
 ghost use Rattle.boxes_main.specs.Command.{configuration_of};
 ghost use Rattle.boxes_main.specs.Failure.{status_of, Tells};
 ghost use Rattle.boxes_main.specs.House.{MakesFor};
