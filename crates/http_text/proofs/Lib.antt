@@ -3,3 +3,4 @@ pub mod FirstHead
 pub mod HeadLemmas
 pub mod LineCounts
 pub mod ResponseLemmas
+pub mod Whole
