@@ -1,4 +1,5 @@
 pub mod Head
 pub mod HeadSteps
 pub mod Place
+pub mod PlaceSteps
 pub mod Response
