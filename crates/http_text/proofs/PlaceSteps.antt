@@ -1,14 +1,14 @@
 -- Where octets end, from the parts of a head.
-use Rattle.std.proofs.Common.{◌≡◌, ◌≢◌, inl, inr, ℕ, ◌+◌, ◌<◌, ◌≤◌, ◌⊎◌, Bool, true, false, cond, eqb, List, [], ◌∷◌, ◌++◌, length, drop, All, refl, ap, sym, ◌∙◌, subst, arith, append_assoc, length-drop}
+use Rattle.std.proofs.Common.{◌≡◌, ◌≢◌, inl, inr, ℕ, ◌<◌, ◌⊎◌, true, false, cond, eqb, List, [], ◌∷◌, ◌++◌, length, drop, All, refl, ap, sym, ◌∙◌, subst, arith, length-drop}
 use Rattle.std.specs.Bool.{IsTrue}
 use Rattle.std.proofs.lemmas.Bool.{false≢true, cases_lt, ne_eqb}
 use Rattle.std.proofs.lemmas.Bool.Decides.{nat_tests}
 use Rattle.std.proofs.lemmas.List.Elements.{All-head, All-tail}
-use Rattle.httparse.specs.Grammar.{is_token_byte, is_uri_byte, is_value_byte, AllPass, IsToken, LineEnd, crlf, lf, print_end, print_blank, print_version, Field, print_field, IsField}
+use Rattle.httparse.specs.Grammar.{is_token_byte, is_uri_byte, is_value_byte, AllPass, IsToken, LineEnd, crlf, lf, print_end, print_blank, Field, print_field, IsField}
 use Rattle.httparse.specs.Pieces.{is_newline}
 use Rattle.httparse.proofs.PieceLemmas.{token_is_no_newline, space_ends_token, colon_ends_token, print_field-append}
 use Rattle.http_text.specs.declared.head.place.Place.{Place}
-use Rattle.http_text.specs.declared.head.place.Place.TheVariants.{Unknown, Blank, BlankReturn, Method, Target, Rest, Line, Name, Value}
+use Rattle.http_text.specs.declared.head.place.Place.TheVariants.{Unknown, Blank, BlankReturn, Method, Target, Version, Line, Name, Value, ValueReturn}
 use Rattle.http_text.specs.PlaceSteps.{next, place_from}
 use Rattle.http_text.proofs.LineCounts.{IsPlain, not_feed, split_front}
 
@@ -51,13 +51,13 @@ next-blank b token =
     ∙ ap (λ t. cond t BlankReturn Method) (no_return b (token_is_no_newline b token))
 
 pub next-target : (b : ℕ) → is_uri_byte b ≡ true → next Target b ≡ Target
-next-target b passes = let no : eqb b 32 ≡ false = grind (arith, nat_tests) in ap (λ t. cond t Rest Target) no
+next-target b passes = let no : eqb b 32 ≡ false = grind (arith, nat_tests) in ap (λ t. cond t Version Target) no
 
-next-rest : (b : ℕ) → eqb b 10 ≡ false → next Rest b ≡ Rest
-next-rest b h = ap (λ t. cond t Line Rest) h
+next-version : (b : ℕ) → eqb b 10 ≡ false → next Version b ≡ Version
+next-version b h = ap (λ t. cond t Line Version) h
 
 next-line : (b : ℕ) → is_token_byte b ≡ true → next Line b ≡ Name
-next-line b token = ap (λ t. cond t Rest Name) (token_is_no_newline b token)
+next-line b token = ap (λ t. cond t Unknown Name) (token_is_no_newline b token)
 
 pub next-name : (b : ℕ) → is_token_byte b ≡ true → next Name b ≡ Name
 next-name b token = ap (λ t. cond t Value Name) (no_colon b token)
@@ -66,7 +66,7 @@ pub next-value : (b : ℕ) → is_value_byte b ≡ true → next Value b ≡ Val
 next-value b passes =
     let no : eqb b 10 ≡ false = grind (arith, nat_tests) in
     let neither : eqb b 13 ≡ false = grind (arith, nat_tests) in
-    ap (λ t. cond t Line (cond (eqb b 13) Rest Value)) no ∙ ap (λ t. cond t Rest Value) neither
+    ap (λ t. cond t Line (cond (eqb b 13) ValueReturn Value)) no ∙ ap (λ t. cond t ValueReturn Value) neither
 
 -- ---- parts of a head
 
@@ -89,8 +89,8 @@ from-method = from-word Blank Method next-blank next-method
 pub from-target : (word : List ℕ) → AllPass is_uri_byte word → place_from Target word ≡ Target
 from-target = from-kept (λ v. IsTrue (is_uri_byte v)) Target next-target
 
-pub from-rest : (word : List ℕ) → IsPlain word → place_from Rest word ≡ Rest
-from-rest = from-kept (λ v. eqb v 10 ≡ false) Rest next-rest
+pub from-version : (word : List ℕ) → IsPlain word → place_from Version word ≡ Version
+from-version = from-kept (λ v. eqb v 10 ≡ false) Version next-version
 
 pub from-name : (word : List ℕ) → IsToken word → place_from Line word ≡ Name
 from-name = from-word Line Name next-line next-name
@@ -98,9 +98,9 @@ from-name = from-word Line Name next-line next-name
 pub from-value : (word : List ℕ) → AllPass is_value_byte word → place_from Value word ≡ Value
 from-value = from-kept (λ v. IsTrue (is_value_byte v)) Value next-value
 
-pub from-rest_end : (end : LineEnd) → place_from Rest (print_end end) ≡ Line
-from-rest_end crlf = refl
-from-rest_end lf = refl
+pub from-version_end : (end : LineEnd) → place_from Version (print_end end) ≡ Line
+from-version_end crlf = refl
+from-version_end lf = refl
 
 pub from-value_end : (end : LineEnd) → place_from Value (print_end end) ≡ Line
 from-value_end crlf = refl
@@ -151,32 +151,28 @@ cut_blank (lf ∷ ends) (b ∷ octets) rest e =
       | inr (some, x) ↦ inr (lf ∷ some, cc)
     ]
 
--- a front of a line end behind a value or behind the version leads behind the line, or to its rest
-pub cut_end : (P : Place → Type 0) (p : Place) → next p 10 ≡ Line → next p 13 ≡ Rest → P Rest → P Line
-    → (end : LineEnd) (b : ℕ) (octets rest : List ℕ) → print_end end ≡ b ∷ (octets ++ rest) → P (place_from p (b ∷ octets))
-cut_end P p feed return here there crlf b [] rest e =
+-- a front of a line end, of which the CR leads from one place to another and the LF behind the line
+pub cut_end : (P : Place → Type 0) (p q : Place) → next p 10 ≡ Line → next p 13 ≡ q → next q 10 ≡ Line → (end : LineEnd) (b : ℕ) (octets rest : List ℕ)
+    → (b ≡ 13 → octets ≡ [] → P q) → P Line → print_end end ≡ b ∷ (octets ++ rest) → P (place_from p (b ∷ octets))
+cut_end P p q feed return behind crlf b [] rest here there e =
     let same : 13 ≡ b = cc in
-    subst P (sym (ap (next p) (sym same) ∙ return)) here
-cut_end P p feed return here there crlf b (c ∷ []) rest e =
+    subst P (sym (ap (next p) (sym same) ∙ return)) (here (sym same) refl)
+cut_end P p q feed return behind crlf b (c ∷ []) rest here there e =
     let first : 13 ≡ b = cc in
     let second : 10 ≡ c = cc in
-    let q : next p b ≡ Rest = ap (next p) (sym first) ∙ return in
-    let r : next (next p b) c ≡ Line = ap (λ (s : Place). next s c) q ∙ ap (next Rest) (sym second) in
+    let r : next (next p b) c ≡ Line = ap (λ (s : Place). next s c) (ap (next p) (sym first) ∙ return) ∙ ap (next q) (sym second) ∙ behind in
     subst P (sym r) there
-cut_end P p feed return here there crlf b (c ∷ d ∷ octets) rest e = absurd cc
-cut_end P p feed return here there lf b [] rest e =
+cut_end P p q feed return behind crlf b (c ∷ d ∷ octets) rest here there e = absurd cc
+cut_end P p q feed return behind lf b [] rest here there e =
     let same : 10 ≡ b = cc in
     subst P (sym (ap (next p) (sym same) ∙ feed)) there
-cut_end P p feed return here there lf b (c ∷ octets) rest e = absurd cc
+cut_end P p q feed return behind lf b (c ∷ octets) rest here there e = absurd cc
 
 -- a front of the empty line behind the fields
-pub cut_last : (P : Place → Type 0) → P Rest → P Line → (end : LineEnd) (octets rest : List ℕ) → print_end end ≡ octets ++ rest → P (place_from Line octets)
+pub cut_last : (P : Place → Type 0) → P Unknown → P Line → (end : LineEnd) (octets rest : List ℕ) → print_end end ≡ octets ++ rest → P (place_from Line octets)
 cut_last P here there end [] rest e = there
 cut_last P here there crlf (b ∷ []) rest e = let same : 13 ≡ b = cc in subst (λ (v : ℕ). P (next Line v)) same here
-cut_last P here there crlf (b ∷ c ∷ []) rest e =
-    let first : 13 ≡ b = cc in
-    let second : 10 ≡ c = cc in
-    subst (λ (v : ℕ). P (next (next Line v) c)) first (subst (λ (v : ℕ). P (next Rest v)) second there)
+cut_last P here there crlf (b ∷ c ∷ []) rest e = let same : 13 ≡ b = cc in subst (λ (v : ℕ). P (next (next Line v) c)) same here
 cut_last P here there crlf (b ∷ c ∷ d ∷ octets) rest e = absurd cc
 cut_last P here there lf (b ∷ []) rest e = let same : 10 ≡ b = cc in subst (λ (v : ℕ). P (next Line v)) same here
 cut_last P here there lf (b ∷ c ∷ octets) rest e = absurd cc

@@ -1,6 +1,5 @@
 -- Octets of which more are needed end where following them octet by octet leads.
 use Rattle.std.proofs.Common.{◌≡◌, inl, inr, ℕ, ◌+◌, ◌<◌, ◌≤◌, false, eqb, List, [], ◌∷◌, ◌++◌, length, All, refl, ap, sym, ◌∙◌, subst, arith, append_assoc, length-append}
-use Rattle.std.specs.Bool.{IsTrue}
 use Rattle.std.specs.List.{flat_map}
 use Rattle.std.proofs.lemmas.Bool.Decides.{nat_tests}
 use Rattle.std.proofs.lemmas.List.{append-nil}
@@ -8,13 +7,14 @@ use Rattle.std.proofs.lemmas.List.Elements.{All-nil, All-from_recursion, All-hea
 use Rattle.httparse.specs.Grammar.{is_token_byte, is_uri_byte, is_value_byte, AllPass, IsToken, LineEnd, print_end, print_blank, print_version, Field, print_field, IsField, RequestHead, print_request, IsRequestHead, EndsInTarget}
 use Rattle.httparse.proofs.PieceLemmas.{print_field-append}
 use Rattle.http_text.specs.declared.head.place.Place.{Place}
-use Rattle.http_text.specs.declared.head.place.Place.TheVariants.{Blank, BlankReturn, Method, Target, Rest, Line, Name, Value}
+use Rattle.http_text.specs.declared.head.place.Place.TheVariants.{Blank, BlankReturn, Method, Target, Version, Line, Name, Value, ValueReturn}
 use Rattle.http_text.specs.Head.{line_limit, Stands, IsOpen}
 use Rattle.http_text.specs.Place.{EndsAt}
 use Rattle.http_text.specs.PlaceSteps.{place_from}
-use Rattle.http_text.proofs.LineCounts.{IsPlain, start, print-start}
-use Rattle.http_text.proofs.OpenEnds.{blank_stays, return_stays, method_stays, target_stays, push_field, is_push_field, start-push, value_stays, name_stays, front_pass, front_plain}
-use Rattle.http_text.proofs.PlaceSteps.{from-behind, from-blank, from-method, from-target, from-rest, from-rest_end, from-name, from-value, from-field, cut, cut_blank, cut_end, cut_last}
+use Rattle.http_text.proofs.LineCounts.{IsPlain, start, print-start, start-append}
+use Rattle.http_text.proofs.PlaceFollows.{blank_return_stays, return_stays}
+use Rattle.http_text.proofs.OpenEnds.{blank_stays, method_stays, target_stays, push_field, is_push_field, start-push, value_stays, name_stays, front_pass, front_plain}
+use Rattle.http_text.proofs.PlaceSteps.{from-behind, from-blank, from-method, from-target, from-version, from-version_end, from-name, from-value, from-field, cut, cut_blank, cut_end, cut_last}
 
 ends_same : (p q : Place) (xs ys : List ℕ) → p ≡ q → xs ≡ ys → EndsAt q ys → EndsAt p xs
 ends_same p q xs ys e f h = subst (λ r. EndsAt r xs) (sym e) (subst (EndsAt q) (sym f) h)
@@ -27,7 +27,23 @@ in_name h [] is all room yet = yet
 in_name h (b ∷ octets) is all room yet =
     let token : IsToken (b ∷ octets) = (omega arith, all) in
     subst (λ p. EndsAt p (start h (b ∷ octets))) (sym (from-name (b ∷ octets) token))
-    (name_stays h (b ∷ octets) (start h (b ∷ octets)) refl is token room yet.none)
+    (name_stays h (b ∷ octets) (start h (b ∷ octets)) refl is token room)
+
+-- in the line end behind a value
+behind_value : (h : RequestHead) (f : Field) (b : ℕ) (octets rest : List ℕ) → IsRequestHead h → IsField f → length h.fields < line_limit
+    → print_end f.end ≡ b ∷ (octets ++ rest) → IsOpen (start h (f.name ++ 58 ∷ (f.raw ++ b ∷ octets)))
+    → EndsAt (place_from Value (b ∷ octets)) (start h (f.name ++ 58 ∷ (f.raw ++ b ∷ octets)))
+behind_value h f b octets rest is field room e yet =
+    let front = f.name ++ 58 ∷ f.raw in
+    cut_end (λ p. EndsAt p (start h (f.name ++ 58 ∷ (f.raw ++ b ∷ octets)))) Value ValueReturn refl refl refl f.end b octets rest
+    (λ first none.
+    let same : start h (f.name ++ 58 ∷ (f.raw ++ b ∷ octets)) ≡ start h front ++ 13 ∷ [] =
+    (λ i. start h (f.name ++ 58 ∷ (f.raw ++ first i ∷ none i)))
+    ∙ ap (start h) (sym (append_assoc f.name (58 ∷ f.raw) (13 ∷ [])))
+    ∙ sym (start-append h front (13 ∷ [])) in
+    subst (EndsAt ValueReturn) (sym same)
+    (return_stays (start h front) (value_stays h f.name f.raw (start h front) refl is field.name field.raw room)))
+    yet e
 
 behind_colon : (h : RequestHead) (f : Field) (octets rest : List ℕ) → IsRequestHead h → IsField f → length h.fields < line_limit
     → f.raw ++ print_end f.end ≡ octets ++ rest → IsOpen (start h (f.name ++ 58 ∷ octets)) → EndsAt (place_from Value octets) (start h (f.name ++ 58 ∷ octets))
@@ -35,12 +51,13 @@ behind_colon h f octets rest is field room e yet =
     let all = start h (f.name ++ 58 ∷ octets) in
     elim (cut f.raw (print_end f.end) octets rest (sym e)) [
       | inl (b, others, x, y) ↦
-          let p = from-behind Value Value f.raw (b ∷ others) (from-value f.raw field.raw) in
-          subst (λ q. EndsAt q all) (sym (ap (place_from Value) x ∙ p))
-          (cut_end (λ q. EndsAt q all) Value refl refl yet yet f.end b others rest (sym y))
+          let same : all ≡ start h (f.name ++ 58 ∷ (f.raw ++ b ∷ others)) = ap (λ (t : List ℕ). start h (f.name ++ 58 ∷ t)) x in
+          ends_same (place_from Value octets) (place_from Value (b ∷ others)) all (start h (f.name ++ 58 ∷ (f.raw ++ b ∷ others)))
+          (ap (place_from Value) x ∙ from-behind Value Value f.raw (b ∷ others) (from-value f.raw field.raw)) same
+          (behind_value h f b others rest is field room (sym y) (subst IsOpen same yet))
       | inr (others, x) ↦
           let passes = front_pass is_value_byte octets others f.raw (sym x) field.raw in
-          subst (λ q. EndsAt q all) (sym (from-value octets passes)) (value_stays h f.name octets all refl is field.name passes room yet.none)
+          subst (λ q. EndsAt q all) (sym (from-value octets passes)) (value_stays h f.name octets all refl is field.name passes room)
     ]
 
 in_field : (h : RequestHead) (f : Field) (octets rest : List ℕ) → IsRequestHead h → IsField f → length h.fields < line_limit
@@ -70,7 +87,7 @@ in_lines [] h last rest octets more is all few e yet =
             reads = (record { method = is.method; target = is.target; target_text = is.target_text; minor = is.minor; fields = is.fields }, whole);
             few = omega arith;
           }))
-      | inr (others, x) ↦ cut_last (λ p. EndsAt p (start h octets)) yet yet last octets others x
+      | inr (others, x) ↦ cut_last (λ p. EndsAt p (start h octets)) tt yet last octets others x
     ]
 in_lines (f ∷ fields) h last rest octets more is all few e yet =
     let field = All-head IsField f fields all in
@@ -121,31 +138,31 @@ lines_text h rest = flat_map print_field h.fields ++ (print_end h.last ++ rest)
 
 in_end : (h : RequestHead) (rest octets more : List ℕ) → IsRequestHead h → length h.fields ≤ line_limit
     → octets ++ more ≡ print_end h.line_end ++ lines_text h rest → 0 < length octets → IsOpen (behind_version h octets)
-    → EndsAt (place_from Rest octets) (behind_version h octets)
+    → EndsAt (place_from Version octets) (behind_version h octets)
 in_end h rest [] more is few e some yet = absurd (omega arith)
 in_end h rest (b ∷ octets) more is few e some yet =
     elim (cut (print_end h.line_end) (lines_text h rest) (b ∷ octets) more e) [
       | inl (c, others, x, y) ↦
-          ends_same (place_from Rest (b ∷ octets)) (place_from Line (c ∷ others)) (behind_version h (b ∷ octets)) (start (without_fields h) (c ∷ others))
-          (ap (place_from Rest) x ∙ from-behind Rest Line (print_end h.line_end) (c ∷ others) (from-rest_end h.line_end))
+          ends_same (place_from Version (b ∷ octets)) (place_from Line (c ∷ others)) (behind_version h (b ∷ octets)) (start (without_fields h) (c ∷ others))
+          (ap (place_from Version) x ∙ from-behind Version Line (print_end h.line_end) (c ∷ others) (from-version_end h.line_end))
           (ap (behind_version h) x)
           (in_lines h.fields (without_fields h) h.last rest (c ∷ others) more (is_without_fields h is) is.fields (omega arith) y (subst IsOpen (ap (behind_version h) x) yet))
-      | inr (others, x) ↦ cut_end (λ p. EndsAt p (behind_version h (b ∷ octets))) Rest refl refl yet yet h.line_end b octets others x
+      | inr (others, x) ↦ cut_end (λ p. EndsAt p (behind_version h (b ∷ octets))) Version Version refl refl refl h.line_end b octets others (λ first none. yet) yet x
     ]
 
 in_version : (h : RequestHead) (rest octets more : List ℕ) → IsRequestHead h → length h.fields ≤ line_limit
     → octets ++ more ≡ print_version h.minor ++ (print_end h.line_end ++ lines_text h rest) → IsOpen (behind_target h octets)
-    → EndsAt (place_from Rest octets) (behind_target h octets)
+    → EndsAt (place_from Version octets) (behind_target h octets)
 in_version h rest octets more is few e yet =
     elim (cut (print_version h.minor) (print_end h.line_end ++ lines_text h rest) octets more e) [
       | inl (b, others, x, y) ↦
-          ends_same (place_from Rest octets) (place_from Rest (b ∷ others)) (behind_target h octets) (behind_version h (b ∷ others))
-          (ap (place_from Rest) x ∙ from-behind Rest Rest (print_version h.minor) (b ∷ others) (from-rest (print_version h.minor) (plain_version h.minor)))
+          ends_same (place_from Version octets) (place_from Version (b ∷ others)) (behind_target h octets) (behind_version h (b ∷ others))
+          (ap (place_from Version) x ∙ from-behind Version Version (print_version h.minor) (b ∷ others) (from-version (print_version h.minor) (plain_version h.minor)))
           (ap (behind_target h) x)
           (in_end h rest (b ∷ others) more is few y (omega arith) (subst IsOpen (ap (behind_target h) x) yet))
       | inr (others, x) ↦
           let plain = front_plain octets others (print_version h.minor) (sym x) (plain_version h.minor) in
-          subst (λ p. EndsAt p (behind_target h octets)) (sym (from-rest octets plain)) yet
+          subst (λ p. EndsAt p (behind_target h octets)) (sym (from-version octets plain)) yet
     ]
 
 -- within a target
@@ -162,7 +179,7 @@ in_target h rest octets more is few e yet =
       | inl (b, others, x, y) ↦
           let space : b ≡ 32 = cc in
           let part : octets ≡ h.target ++ 32 ∷ others = x ∙ ap (λ (v : ℕ). h.target ++ v ∷ others) space in
-          ends_same (place_from Target octets) (place_from Rest others) (behind_method h octets) (behind_target h others)
+          ends_same (place_from Target octets) (place_from Version others) (behind_method h octets) (behind_target h others)
           (ap (place_from Target) part ∙ from-behind Target Target h.target (32 ∷ others) (from-target h.target is.target.1))
           (ap (behind_method h) part)
           (in_version h rest others more is few (cc) (subst IsOpen (ap (behind_method h) part) yet))
@@ -187,7 +204,7 @@ in_method h rest octets more is few some e yet =
       | inr (others, x) ↦
           let token : IsToken octets = (some, front_pass is_token_byte octets others h.method (sym x) is.method.1) in
           subst (λ p. EndsAt p (behind_lines h octets)) (sym (from-method octets token))
-          (method_stays h.blank octets (behind_lines h octets) refl token yet.none)
+          (method_stays h.blank octets (behind_lines h octets) refl token)
     ]
 
 in_blank : (ends : List LineEnd) (octets rest : List ℕ) → print_blank ends ≡ octets ++ rest → EndsAt (place_from Blank octets) octets
@@ -196,7 +213,7 @@ in_blank ends octets rest e =
       | inl (some, x) ↦ subst (λ p. EndsAt p octets) (sym (ap (place_from Blank) x ∙ from-blank some)) (blank_stays some octets x)
       | inr (some, x) ↦
           subst (λ p. EndsAt p octets) (sym (ap (place_from Blank) x ∙ from-behind Blank Blank (print_blank some) (13 ∷ []) (from-blank some)))
-          (return_stays some octets x)
+          (subst (λ t. EndsAt BlankReturn t) (sym x) (blank_return_stays (print_blank some) (blank_stays some (print_blank some) refl)))
     ]
 
 -- ---- anywhere

@@ -23,14 +23,16 @@ pub enum Place {
     Method,
     /// In the request target.
     Target,
-    /// In a line of which nothing but its end is looked for: in the version, or behind a CR.
-    Rest,
+    /// Behind the space that ends the target.
+    Version,
     /// Where a header line begins, or the empty line behind them.
     Line,
     /// In a field's name.
     Name,
     /// Behind the colon of a field.
     Value,
+    /// Behind the CR of a header line.
+    ValueReturn,
 }
 
 impl Place {
@@ -46,32 +48,33 @@ impl Place {
             Place::BlankReturn => Place::Blank,
             Place::Method if octet == b' ' => Place::Target,
             Place::Method => Place::Method,
-            Place::Target if octet == b' ' => Place::Rest,
+            Place::Target if octet == b' ' => Place::Version,
             Place::Target => Place::Target,
-            Place::Rest if octet == b'\n' => Place::Line,
-            Place::Rest => Place::Rest,
-            Place::Line if octet == b'\r' || octet == b'\n' => Place::Rest,
+            Place::Version if octet == b'\n' => Place::Line,
+            Place::Version => Place::Version,
+            Place::Line if octet == b'\r' || octet == b'\n' => Place::Unknown,
             Place::Line => Place::Name,
             Place::Name if octet == b':' => Place::Value,
             Place::Name => Place::Name,
             Place::Value if octet == b'\n' => Place::Line,
-            Place::Value if octet == b'\r' => Place::Rest,
+            Place::Value if octet == b'\r' => Place::ValueReturn,
             Place::Value => Place::Value,
+            Place::ValueReturn => Place::Line,
         }
     }
 
-    // Whether what stands there goes on with an octet, and no line of the head ends.
+    // Whether what stands there goes on with an octet, and the head doesn't end with it.
     fn goes_on(self, octet: u8) -> bool
         ensures { result ≡ steps.goes_on self octet }
     {
         match self {
-            Place::Unknown | Place::Rest | Place::Line => false,
+            Place::Unknown | Place::Version | Place::Line => false,
             Place::Blank => octet == b'\r' || octet == b'\n',
-            Place::BlankReturn => octet == b'\n',
+            Place::BlankReturn | Place::ValueReturn => octet == b'\n',
             Place::Method => is_method_token(octet),
             Place::Target => is_uri_token(octet),
             Place::Name => octet == b':' || is_header_name_token(octet),
-            Place::Value => octet == b'\r' || is_header_value_token(octet),
+            Place::Value => octet == b'\r' || octet == b'\n' || is_header_value_token(octet),
         }
     }
 }
