@@ -21,11 +21,11 @@ BeginsName octets =
     (name : List ℕ) × (value : List ℕ) × (end : LineEnd) × (rest : List ℕ) × AllPass is_token_byte name × AllPass is_value_byte value
     × (octets ++ rest ≡ name ++ colon ∷ (value ++ print_end end))
 
--- more octets are needed, and still are whichever of these follow
+-- more are needed than the octets, whichever of these follow them
 abbrev pub StaysOpen : (List ℕ → Type 0) → List ℕ → Type 0
 StaysOpen Follows octets = (more : List ℕ) → Follows more → IsOpen (octets ++ more)
 
--- the octets end there, where more are needed and these may follow
+-- The octets end there. Where that is known, more are needed, and still are behind octets with which what stands there goes on.
 abbrev pub EndsAt : Place → List ℕ → Type 0
 EndsAt place.Unknown octets = ⊤
 EndsAt place.Blank octets = StaysOpen BeginsBlank octets

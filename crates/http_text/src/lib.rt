@@ -1,7 +1,8 @@
 //! The text of HTTP: the head of a request, and a response.
 //!
 //! `read_head` reads the head at the front of octets (`Head`, `HeadRead`), and looks at the first `HEAD_LIMIT` of them alone;
-//! a head has at most `LINE_LIMIT` header lines. `write_response` gives the text of a `Response`: status line, fields and body.
+//! a head has at most `LINE_LIMIT` header lines. `read_more` reads one that comes in pieces, and goes on from where the octets
+//! before ended (`Place`). `write_response` gives the text of a `Response`: status line, fields and body.
 //! What a request asks for, and which response answers it, is known above.
 //!
 //! The one contract: a head is read exactly where one stands, octets are refused only where no head can come of them, and
