@@ -1,6 +1,7 @@
 -- What the settings of a configuration lie within, to be read beside the table of docs/FORMATS.md: a record a kind of group, a line a
 -- field. Bounds are counted in.
-use Rattle.std.specs.Prelude.{◌≡◌, ◌⊎◌, ℕ, ◌+◌, ◌≤◌, List, [], ◌∷◌, length, All, IfSome, IsSome, IsUtf8}
+use Rattle.std.specs.Prelude.{◌≡◌, ◌⊎◌, ℕ, ◌+◌, ◌≤◌, List, length, All, IfSome, IsSome, IsUtf8}
+use Rattle.std.specs.List.{AllZip}
 use Rattle.route_rules.specs.declared.link_kind.LinkKind.{LinkKind}
 use Rattle.route_rules.specs.declared.link_kind.LinkKind.TheVariants.{Smpp, Ucp, Cimd2}
 use Rattle.route_rules.specs.declared.link_rule.LinkRule.{LinkRule}
@@ -54,12 +55,6 @@ IsLogin Cimd2 username password = IsPrintable 32 username × IsPrintable 32 pass
 pub record IsPair (rule : LinkRule) (link : LinkSettings) : Type 0 where
   pub id : link.smsc_id ≡ rule.id
   pub login : IsLogin rule.kind link.smsc_username link.smsc_password
-
--- each rule stands beside its link
-abbrev pub ArePairs : List LinkRule → List LinkSettings → Type 0
-ArePairs [] [] = Unit {0}
-ArePairs (rule ∷ rules) (link ∷ links) = IsPair rule link × ArePairs rules links
-ArePairs rules links = ⊥
 
 -- ---- smsbox
 
@@ -115,7 +110,7 @@ pub record AreSettings (settings : Settings) : Type 0 where
   pub rules : All IsLinkRule settings.rules.links
   pub links : All IsLink settings.links
   pub same_links : length settings.links ≡ length settings.rules.links
-  pub pairs : ArePairs settings.rules.links settings.links
+  pub pairs : AllZip IsPair settings.rules.links settings.links
   pub smsbox : IsSmsbox settings.smsbox
   pub users : All IsUser settings.users
   pub services : All IsService settings.services
