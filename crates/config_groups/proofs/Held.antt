@@ -3,7 +3,7 @@ use Rattle.std.proofs.Common.{◌≡◌, refl, sym, subst, ℕ, ◌≤◌, Bool,
 use Rattle.std.specs.Prelude.{◌⊎◌, IsUtf8, IsSome, option_map}
 use Rattle.std.specs.List.{list_any}
 use Rattle.std.proofs.lemmas.Bool.{and_parts, and_cases, not-false}
-use Rattle.std.proofs.lemmas.Str.{IsUtf8-from_is_utf8}
+use Rattle.std.proofs.lemmas.Str.{IsUtf8-from_is_utf8, IsUtf8-nil}
 use Rattle.config_values.specs.declared.grammar.Grammar.{Grammar}
 use Rattle.config_values.specs.declared.grammar.Grammar.TheVariants as grammars
 use Rattle.config_values.specs.Forms.{IsWithin, AreEntries, IsSender}
@@ -87,7 +87,7 @@ module _ (role : Role) (group : List Set) (right : group_fault role group ≡ No
   list_of name row = value_or name [] (Of grammars.List) (λ v. AreEntries (entries v)) row forms.list (forms.list [] refl)
 
   pub text_of : (name : List ℕ) → range_of role name ≡ Some Text → IsUtf8 (octets name group)
-  text_of name row = value_or name [] Text IsUtf8 row (λ v is. IsUtf8-from_is_utf8 v (and_parts _ _ is).1) (IsUtf8-from_is_utf8 [] refl)
+  text_of name row = value_or name [] Text IsUtf8 row (λ v is. IsUtf8-from_is_utf8 v (and_parts _ _ is).1) IsUtf8-nil
 
   module _ (whole : lacking role group ≡ None) where
     stands : (name : List ℕ) → need_of role name ≡ Always → (set : Set) × (first name group ≡ Some set)

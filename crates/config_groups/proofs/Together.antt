@@ -2,6 +2,7 @@
 use Rattle.std.proofs.Common.{◌≡◌, ◌∙◌, refl, sym, ap, subst, ℕ, ◌+◌, ◌-◌, ◌≤◌, ◌==◌, Bool, true, false, cond, not, ◌&&◌, ◌||◌, List, [], ◌∷◌, ◌++◌, length, take, drop, Option, Some, None, inl, inr, arith, append_assoc, length-append}
 use Rattle.std.specs.Prelude.{codes, bytes_eq}
 use Rattle.std.specs.List.{list_any}
+use Rattle.std.specs.Str.{is_utf8, chars}
 use Rattle.std.proofs.Math.Seq.{take-append_seam, drop-append_seam}
 use Rattle.std.proofs.lemmas.Bool.{and_parts, and_cases, and_from, and_left, or_parts, or_from, or_left, or_right, cases_Bool, not-false, not-true, not_from_true, not_from_false, both_ways, eqb-false, false≢true}
 use Rattle.std.proofs.lemmas.List.Folds.{list_any-append}
@@ -30,7 +31,7 @@ module _ (role : Role) (group : List Set) where
   none_count : (at : ℕ) (rest : List Set) → has_counted role group at rest ≡ false → total at rest ≡ 0
   none_count at [] none = refl
   none_count at (set ∷ rest) none =
-      let parts = or_parts _ _ none in
+      let parts = or_parts (is_counted role (take at group) set) (has_counted role group (at + 1) rest) none in
       let behind = none_count (at + 1) rest parts.1 in
       rw parts.0 (omega arith)
 
@@ -129,6 +130,7 @@ module _ (role : Role) where
         ]
 
     len_none : (name : List ℕ) (front : List Set) → len name front [] ≡ 0
+    unfolding is_utf8 chars
     len_none name front = elim (cases_Bool (list_any (has_name name) front)) [ inl known ↦ rw known refl | inr new ↦ rw new refl ]
 
     all_lens : (group front rest : List Set) → group ≡ front ++ rest → len a front rest + len b front rest + len c front rest ≤ total role group (length front) rest

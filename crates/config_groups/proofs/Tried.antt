@@ -91,7 +91,7 @@ needed_in role group name (row ∷ rest) none =
     elim (cases_Bool (has role row.of && bytes_eq row.name name)) [
       | inl is ↦
           let of = and_parts _ _ is in
-          let stands : is_lacking row.need row.name group ≡ false = elim (and_cases _ _ parts.0) [ inl other ↦ absurd (both_ways _ other of.0) | inr stands ↦ stands ] in
+          let stands : is_lacking row.need row.name group ≡ false = elim (and_cases (has role row.of) (is_lacking row.need row.name group) parts.0) [ inl other ↦ absurd (both_ways (has role row.of) other of.0) | inr stands ↦ stands ] in
           rw is (subst (λ n. is_lacking row.need n group ≡ false) ((bytes_eq-Decides row.name name).0 of.1) stands)
       | inr other ↦ rw other (needed_in role group name rest parts.1)
     ]

@@ -197,7 +197,7 @@ module _ (room : Room) (settings : Settings) (group : List Set) (far : AreSoFar 
   kept_first left kind kept = cond_both (left == 0) Passed (Taken kind) (IsKept room settings group) (λ none right whole. far) (λ some. kept)
 
   kept_in : (family : Option Family) → IsKept room settings group (role_in room family group)
-  kept_in None right whole = far
+  kept_in None = λ right whole. far
   kept_in (Some families.Core) = kept_first room.core Core kept_core
   kept_in (Some families.Link) = kept_bounded room.links (Link (protocol_in group)) (kept_of_protocol (protocol_in group))
   kept_in (Some families.Smsbox) = kept_first room.smsbox Smsbox kept_smsbox
@@ -205,7 +205,7 @@ module _ (room : Room) (settings : Settings) (group : List Set) (far : AreSoFar 
   kept_in (Some families.Service) = kept_bounded room.services Service kept_service
 
   kept_by : (found : Option Set) → IsKept room settings group (role_by room found group)
-  kept_by None right whole = far
+  kept_by None = λ right whole. far
   kept_by (Some set) = kept_in (family_of set.value)
 
   kept : IsKept room settings group (role_of room group)

@@ -1,6 +1,7 @@
 -- What each group sets lies within its ranges.
 use Rattle.std.proofs.Common.{◌≡◌, refl, sym, subst, ℕ, ◌≤◌, true, List, [], length, Option, Some, None, IfSome, arith}
 use Rattle.std.specs.Prelude.{IsUtf8, codes}
+use Rattle.std.specs.Str.{is_utf8, chars}
 use Rattle.std.proofs.lemmas.Bool.{and_parts, leb-true}
 use Rattle.std.proofs.lemmas.List.Elements.{All-weaker}
 use Rattle.std.proofs.lemmas.Str.{IsUtf8-from_is_utf8}
@@ -72,7 +73,7 @@ module _ (group : List Set) (right : group_fault smsbox group ≡ None) where
   reply_within name unset row default = value_or smsbox group right name unset (Of (grammars.Utf8 160)) IsReply row reply (reply unset default)
 
   pub smsbox_within : IsSmsbox (smsbox_of group)
-  unfolding smsbox_of replies_of range_of rows
+  unfolding smsbox_of replies_of range_of rows is_utf8 chars lib.Utf8.encode
   smsbox_within = record {
     bearerbox_host = octets_or smsbox group right (codes "bearerbox-host") (codes "localhost") 1 255 refl (omega arith, omega arith);
     sendsms_port = port_or smsbox group right (codes "sendsms-port") 13013 refl (omega arith, omega arith);
@@ -206,7 +207,7 @@ module _ (role : Role) (group : List Set) (right : group_fault role group ≡ No
     (header : range_of role (codes "header") ≡ Some Text)
     (footer : range_of role (codes "footer") ≡ Some Text) where
   texts_within : AreTexts (texts_of group).0.0 (texts_of group).0.1 (texts_of group).1.0 (texts_of group).1.1
-  unfolding texts_of
+  unfolding texts_of is_utf8 chars
   texts_within = record {
     split_chars = value_or role group right (codes "split-chars") [] (Of (grammars.Characters 64)) (IsText 64) chars (forms.text 64) (forms.text 64 [] refl);
     split_suffix = text_of role group right (codes "split-suffix") suffix;
