@@ -1,10 +1,9 @@
 -- A field of the settings is what stands for its variable, or lies in the range of its row.
-use Rattle.std.proofs.Common.{◌≡◌, refl, sym, subst, ℕ, ◌≤◌, Bool, true, false, min, List, [], length, Option, Some, None, IfSome, inl, inr, arith}
+use Rattle.std.proofs.Common.{◌≡◌, refl, sym, subst, ℕ, ◌≤◌, true, min, List, [], length, Option, Some, None, IfSome, inl, inr, arith}
 use Rattle.std.specs.Prelude.{◌⊎◌, IsUtf8, IsSome, option_map}
 use Rattle.std.specs.List.{list_any}
 use Rattle.std.proofs.lemmas.Bool.{and_parts, and_cases, not-false}
 use Rattle.std.proofs.lemmas.Str.{IsUtf8-from_is_utf8, IsUtf8-nil}
-use Rattle.config_values.specs.declared.grammar.Grammar.{Grammar}
 use Rattle.config_values.specs.declared.grammar.Grammar.TheVariants as grammars
 use Rattle.config_values.specs.Forms.{IsWithin, AreEntries, IsSender}
 use Rattle.config_values.specs.Values.{entries}
@@ -14,7 +13,7 @@ use Rattle.config_groups.specs.declared.role.Role.{Role}
 use Rattle.config_groups.specs.declared.table.Range.{Range}
 use Rattle.config_groups.specs.declared.table.Range.TheVariants.{Of, Text}
 use Rattle.config_groups.specs.Roles.{has_name, first}
-use Rattle.config_groups.specs.Table.{Need, Always, Without, is_in}
+use Rattle.config_groups.specs.Table.{Always, Without, is_in}
 use Rattle.config_groups.specs.Fields.{value, value_by, octets, optional, number, number_by, small, port, list, sender}
 use Rattle.config_groups.specs.Faults.{range_of, group_fault}
 use Rattle.config_groups.specs.Missing.{lacking}

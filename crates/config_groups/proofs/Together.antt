@@ -1,10 +1,10 @@
 -- Where a group has no fault, the texts that go into each part of a message have at most 30 characters together.
-use Rattle.std.proofs.Common.{◌≡◌, ◌∙◌, refl, sym, ap, subst, ℕ, ◌+◌, ◌-◌, ◌≤◌, ◌==◌, Bool, true, false, cond, not, ◌&&◌, ◌||◌, List, [], ◌∷◌, ◌++◌, length, take, drop, Option, Some, None, inl, inr, arith, append_assoc, length-append}
-use Rattle.std.specs.Prelude.{codes, bytes_eq}
+use Rattle.std.proofs.Common.{◌≡◌, ◌∙◌, refl, sym, ap, subst, ℕ, ◌+◌, ◌-◌, ◌≤◌, true, false, cond, not, ◌&&◌, List, [], ◌∷◌, ◌++◌, length, take, drop, Some, None, inl, inr, arith, length-append}
+use Rattle.std.specs.Prelude.{bytes_eq}
 use Rattle.std.specs.List.{list_any}
 use Rattle.std.specs.Str.{is_utf8, chars}
 use Rattle.std.proofs.Math.Seq.{take-append_seam, drop-append_seam}
-use Rattle.std.proofs.lemmas.Bool.{and_parts, and_cases, and_from, and_left, or_parts, or_from, or_left, or_right, cases_Bool, not-false, not-true, not_from_true, not_from_false, both_ways, eqb-false, false≢true}
+use Rattle.std.proofs.lemmas.Bool.{and_parts, and_from, or_parts, or_from, or_left, or_right, cases_Bool, not-true, not_from_false, both_ways, eqb-false}
 use Rattle.std.proofs.lemmas.List.Folds.{list_any-append}
 use Rattle.config_values.specs.Values.{characters}
 use Rattle.config_groups.specs.declared.group.Set.{Set}
@@ -12,7 +12,7 @@ use Rattle.config_groups.specs.declared.role.Role.{Role}
 use Rattle.config_groups.specs.declared.table.Range.TheVariants.{Text}
 use Rattle.config_groups.specs.Roles.{has_name, first}
 use Rattle.config_groups.specs.Fields.{value_by, octets, value}
-use Rattle.config_groups.specs.Faults.{range_of, is_text, is_counted, text_len, text_room, has_counted, are_too_long, is_last_text, is_wrong, fault_from, group_fault}
+use Rattle.config_groups.specs.Faults.{range_of, is_text, is_counted, text_len, text_room, has_counted, are_too_long, is_wrong, fault_from, group_fault}
 use Rattle.config_groups.proofs.Tried.{none_parts, same_name, still_new, right, whole_behind, none_behind}
 
 -- ---- the characters that count, from a place on

@@ -1,5 +1,5 @@
 -- The settings of a configuration without a fault lie within the ranges of the table.
-use Rattle.std.proofs.Common.{◌≡◌, ◌∙◌, refl, sym, ap, subst, ℕ, suc, ◌+◌, ◌-◌, ◌≤◌, ◌==◌, Bool, true, false, cond, List, [], ◌∷◌, ◌++◌, length, Option, Some, None, Result, Ok, Err, IfOk, All, inl, inr, arith, length-append}
+use Rattle.std.proofs.Common.{◌≡◌, refl, sym, ap, subst, ℕ, suc, ◌+◌, ◌-◌, ◌≤◌, ◌==◌, List, [], ◌∷◌, ◌++◌, length, Option, Some, None, Result, Ok, Err, IfOk, All, arith, length-append}
 use Rattle.std.specs.Prelude.{codes}
 use Rattle.std.specs.List.{AllZip}
 use Rattle.std.proofs.lemmas.Bool.{cond_both, eqb-false}
@@ -17,7 +17,7 @@ use Rattle.config_groups.specs.declared.role.Family.TheVariants as families
 use Rattle.config_groups.specs.declared.role.Kind.{Kind}
 use Rattle.config_groups.specs.declared.role.Kind.TheVariants.{Core, Link, Smsbox, User, Service}
 use Rattle.config_groups.specs.declared.role.Role.{Role}
-use Rattle.config_groups.specs.declared.role.Role.TheVariants.{Nameless, Passed, Taken, Excess}
+use Rattle.config_groups.specs.declared.role.Role.TheVariants.{Passed, Taken, Excess}
 use Rattle.config_groups.specs.declared.role.Room.{Room}
 use Rattle.config_groups.specs.declared.settings.Settings.{Settings}
 use Rattle.config_groups.specs.Roles.{first, protocol_in, bounded, only_first, family_of, role_in, role_by, role_of, room_behind, whole_room}
@@ -25,7 +25,7 @@ use Rattle.config_groups.specs.Faults.{group_fault, first_of, fault_in, first_fa
 use Rattle.config_groups.specs.Groups.{groups_of}
 use Rattle.config_groups.specs.Missing.{lacking, missing_by, missing_in, first_missing}
 use Rattle.config_groups.specs.Passed.{passed_of}
-use Rattle.config_groups.specs.Settings.{core_of, outgoing_of, incoming_of, smsbox_of, link_of, rule_of, user_of, service_of, no_settings, with_core, with_link, with_group, settings_in, settings_of}
+use Rattle.config_groups.specs.Settings.{link_of, rule_of, user_of, service_of, no_settings, with_core, with_link, with_group, settings_in, settings_of}
 use Rattle.config_groups.specs.Config as spec
 use Rattle.config_groups.specs.Ranges.{IsCore, IsLinkRule, IsLink, IsPair, IsSmsbox, IsUser, IsService, AreSettings}
 use Rattle.config_groups.proofs.Within.{core_within, outgoing_within, incoming_within, smsbox_within, rule_within, link_within, pair_within, user_within, service_within}

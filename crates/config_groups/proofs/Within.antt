@@ -1,6 +1,6 @@
 -- What each group sets lies within its ranges.
-use Rattle.std.proofs.Common.{◌≡◌, refl, sym, subst, ℕ, ◌≤◌, true, List, [], length, Option, Some, None, IfSome, arith}
-use Rattle.std.specs.Prelude.{IsUtf8, codes}
+use Rattle.std.proofs.Common.{◌≡◌, refl, ℕ, ◌≤◌, true, List, [], length, Some, None, IfSome, arith}
+use Rattle.std.specs.Prelude.{codes}
 use Rattle.std.specs.Str.{is_utf8, chars}
 use Rattle.std.proofs.lemmas.Bool.{and_parts, leb-true}
 use Rattle.std.proofs.lemmas.List.Elements.{All-weaker}
@@ -9,16 +9,14 @@ use Rattle.route_rules.specs.declared.link_kind.LinkKind.{LinkKind}
 use Rattle.route_rules.specs.declared.link_kind.LinkKind.TheVariants as protocols
 use Rattle.config_values.specs.declared.grammar.Grammar.TheVariants as grammars
 use Rattle.sms_record.specs.Record.{IsDigit}
-use Rattle.config_values.specs.Forms.{IsWithin, IsPrintable, IsDigits, IsWord, IsPath, AreEntries, IsSender, IsText}
+use Rattle.config_values.specs.Forms.{IsWithin, IsPrintable, IsDigits, IsWord, IsPath, IsText}
 use Rattle.config_values.proofs.Forms as forms
 use Rattle.config_groups.specs.declared.group.Set.{Set}
-use Rattle.config_groups.specs.declared.role.Kind.{Kind}
 use Rattle.config_groups.specs.declared.role.Kind.TheVariants as kinds
 use Rattle.config_groups.specs.declared.role.Role.{Role}
 use Rattle.config_groups.specs.declared.role.Role.TheVariants.{Taken}
-use Rattle.config_groups.specs.declared.table.Range.{Range}
 use Rattle.config_groups.specs.declared.table.Range.TheVariants.{Of, Text}
-use Rattle.config_groups.specs.Table.{rows, Always, Without, is_in}
+use Rattle.config_groups.specs.Table.{rows, Always, is_in}
 use Rattle.config_groups.specs.Fields.{value, octets, optional}
 use Rattle.config_groups.specs.Faults.{range_of, group_fault}
 use Rattle.config_groups.specs.Missing.{lacking}

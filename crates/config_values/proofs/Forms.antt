@@ -1,16 +1,14 @@
 -- A value that a variable may hold has the form that its grammar names.
-use Rattle.std.proofs.Common.{◌≡◌, refl, ap, subst, ℕ, ◌≤◌, Bool, true, false, cond, ◌&&◌, List, [], ◌∷◌, length, inl, inr, arith, leb-true, All, IfSome, Some, None, filter}
+use Rattle.std.proofs.Common.{◌≡◌, refl, subst, ℕ, Bool, true, cond, List, [], ◌∷◌, length, inl, inr, arith, leb-true, All, IfSome, filter}
 use Rattle.std.specs.Char.{is_ascii_digit}
 use Rattle.std.specs.List.{list_all, slice_split}
-use Rattle.std.proofs.lemmas.Bool.{and_parts, cases_Bool, cond_both, eqb-true, eqb-false, not-true, false≢true}
+use Rattle.std.proofs.lemmas.Bool.{and_parts, cases_Bool, eqb-true, eqb-false, not-true, false≢true}
 use Rattle.std.proofs.lemmas.Bool.Decides.{nat_tests}
-use Rattle.std.proofs.lemmas.List.Elements.{All-nil, All-cons, filter_passes}
+use Rattle.std.proofs.lemmas.List.Elements.{All-nil, All-cons}
 use Rattle.std.proofs.lemmas.Str.{IsUtf8-from_is_utf8}
-use Rattle.sms_record.specs.declared.address.Address.{Address}
-use Rattle.sms_record.specs.declared.address.Address.TheVariants.{Number, Text}
 use Rattle.sms_record.specs.declared.limits.TheConstants.{MOST_DIGITS}
-use Rattle.sms_record.specs.Record.{IsAddress, IsDigit}
-use Rattle.config_values.specs.Values.{is_within, is_digits, is_printable, is_printable_octet, is_word, is_no_blank, is_path, is_list, is_entry, is_filled, is_separator, is_text, is_number_within, number_of, entries, behind_plus, has_plus, address_of, is_sendable, is_sendable_text, sender_of, characters}
+use Rattle.sms_record.specs.Record.{IsDigit}
+use Rattle.config_values.specs.Values.{is_within, is_digits, is_printable, is_printable_octet, is_word, is_no_blank, is_path, is_list, is_entry, is_filled, is_separator, is_text, is_number_within, number_of, entries, behind_plus, is_sendable_text, sender_of, characters}
 use Rattle.config_values.specs.Forms.{IsWithin, IsPrintable, IsDigits, IsWord, IsNoBlank, IsPath, IsEntry, AreEntries, IsSender, IsText}
 
 pub within : (least most number : ℕ) → is_within least most number ≡ true → IsWithin least most number
