@@ -2,8 +2,8 @@
 use Rattle.std.proofs.Common.{◌≡◌, refl, sym, subst, ℕ, ◌≤◌, true, min, List, [], length, Option, Some, None, IfSome, inl, inr, arith}
 use Rattle.std.specs.Prelude.{◌⊎◌, IsUtf8, IsSome, option_map}
 use Rattle.std.specs.List.{list_any}
-use Rattle.std.proofs.lemmas.Bool.{and_parts, and_cases, not-false}
-use Rattle.std.proofs.lemmas.Str.{IsUtf8-from_is_utf8, IsUtf8-nil}
+use Rattle.std.proofs.lemmas.Bool.{and_cases, not-false}
+use Rattle.std.proofs.lemmas.Str.{IsUtf8-nil}
 use Rattle.config_values.specs.declared.grammar.Grammar.TheVariants as grammars
 use Rattle.config_values.specs.Forms.{IsWithin, AreEntries, IsSender}
 use Rattle.config_values.specs.Values.{entries}
@@ -86,7 +86,7 @@ module _ (role : Role) (group : List Set) (right : group_fault role group ≡ No
   list_of name row = value_or name [] (Of grammars.List) (λ v. AreEntries (entries v)) row forms.list (forms.list [] refl)
 
   pub text_of : (name : List ℕ) → range_of role name ≡ Some Text → IsUtf8 (octets name group)
-  text_of name row = value_or name [] Text IsUtf8 row (λ v is. IsUtf8-from_is_utf8 v (and_parts _ _ is).1) IsUtf8-nil
+  text_of name row = value_or name [] Text IsUtf8 row (λ v is. (forms.utf8 18446744073709551615 v is).0) IsUtf8-nil
 
   module _ (whole : lacking role group ≡ None) where
     stands : (name : List ℕ) → need_of role name ≡ Always → (set : Set) × (first name group ≡ Some set)
@@ -110,7 +110,7 @@ module _ (role : Role) (group : List Set) (right : group_fault role group ≡ No
     port_always name row need =
         let set = stands name need in
         at_most 1 65535 65535 (number name 0 group)
-          (number_found 1 65535 0 (first name group) set.0 set.1 (tried role group name (Numbers 1 65535) row right)) (omega arith)
+        (number_found 1 65535 0 (first name group) set.0 set.1 (tried role group name (Numbers 1 65535) row right)) (omega arith)
 
 -- the first of two names stands, or the second does
 there : (name : List ℕ) (group : List Set) → list_any (has_name name) group ≡ true → IsSome (optional name group)

@@ -52,16 +52,16 @@ module _ (role : Role) (group : List Set) where
       let ahead = none_counted long (front ++ set ∷ []) rest (whole_behind role group front set rest whole) (none_behind role group front set rest parts.1) in
       let later : has_counted role group (length front + 1) rest ≡ false = subst (λ at. has_counted role group at rest ≡ false) (length-append front (set ∷ [])) ahead in
       or_from _ _
-        (elim (cases_Bool (is_counted role (take (length front) group) set)) [
-          | inl is ↦
-              let new : list_any (has_name set.name) front ≡ false =
-                subst (λ sets. list_any (has_name set.name) sets ≡ false) (before front (set ∷ rest) whole) (not-true _ (and_parts _ _ is).1) in
-              let good = (right role group front set rest whole parts.0 new).1 in
-              let last = not_from_false _ (subst (λ sets. has_counted role group (length front + 1) sets ≡ false) (sym (behind front set rest whole)) later) in
-              absurd (both_ways _ good (and_from _ _ (and_from _ _ is last) long))
-          | inr none ↦ none
-        ])
-        later
+      (elim (cases_Bool (is_counted role (take (length front) group) set)) [
+        | inl is ↦
+            let new : list_any (has_name set.name) front ≡ false =
+            subst (λ sets. list_any (has_name set.name) sets ≡ false) (before front (set ∷ rest) whole) (not-true _ (and_parts _ _ is).1) in
+            let good = (right role group front set rest whole parts.0 new).1 in
+            let last = not_from_false _ (subst (λ sets. has_counted role group (length front + 1) sets ≡ false) (sym (behind front set rest whole)) later) in
+            absurd (both_ways _ good (and_from _ _ (and_from _ _ is last) long))
+        | inr none ↦ none
+      ])
+      later
 
   short : group_fault role group ≡ None → total 0 group ≤ 30
   short none =

@@ -2,9 +2,7 @@
 use Rattle.std.proofs.Common.{◌≡◌, refl, ℕ, ◌≤◌, true, List, [], length, Some, None, IfSome, arith}
 use Rattle.std.specs.Prelude.{codes}
 use Rattle.std.specs.Str.{is_utf8, chars}
-use Rattle.std.proofs.lemmas.Bool.{and_parts, leb-true}
 use Rattle.std.proofs.lemmas.List.Elements.{All-weaker}
-use Rattle.std.proofs.lemmas.Str.{IsUtf8-from_is_utf8}
 use Rattle.route_rules.specs.declared.link_kind.LinkKind.{LinkKind}
 use Rattle.route_rules.specs.declared.link_kind.LinkKind.TheVariants as protocols
 use Rattle.config_values.specs.declared.grammar.Grammar.TheVariants as grammars
@@ -40,7 +38,7 @@ module _ (group : List Set) (right : group_fault core group ≡ None) where
   unfolding core_of range_of rows
   core_within = record {
     store_file =
-      value_or core group right (codes "store-file") [] (Of (grammars.Octets 1 255)) (λ v. length v ≤ 255) refl
+        value_or core group right (codes "store-file") [] (Of (grammars.Octets 1 255)) (λ v. length v ≤ 255) refl
         (λ v is. (forms.within 1 255 (length v) is).1) (omega arith);
     smsbox_port = port_or core group right (codes "smsbox-port") 13001 refl (omega arith, omega arith);
     http_workers = small_or core group right (codes "http-workers") 4 1 32 refl (omega arith, omega arith) (omega arith);
@@ -60,15 +58,10 @@ module _ (group : List Set) (right : group_fault core group ≡ None) where
 abbrev smsbox : Role
 smsbox = Taken kinds.Smsbox
 
-reply : (v : List ℕ) → is_in (Of (grammars.Utf8 160)) v ≡ true → IsReply v
-reply v is =
-    let parts = and_parts _ _ is in
-    (IsUtf8-from_is_utf8 v parts.1, leb-true (length v) 160 parts.0)
-
 module _ (group : List Set) (right : group_fault smsbox group ≡ None) where
   reply_within : (name unset : List ℕ) → range_of smsbox name ≡ Some (Of (grammars.Utf8 160)) → is_in (Of (grammars.Utf8 160)) unset ≡ true →
       IsReply (value name unset group)
-  reply_within name unset row default = value_or smsbox group right name unset (Of (grammars.Utf8 160)) IsReply row reply (reply unset default)
+  reply_within name unset row default = value_or smsbox group right name unset (Of (grammars.Utf8 160)) IsReply row (forms.utf8 160) (forms.utf8 160 unset default)
 
   pub smsbox_within : IsSmsbox (smsbox_of group)
   unfolding smsbox_of replies_of range_of rows is_utf8 chars lib.Utf8.encode
@@ -112,32 +105,61 @@ record HasRows (role : Role) : Type 0 where
 has_rows : (kind : LinkKind) → HasRows (link kind)
 unfolding range_of need_of rows
 has_rows protocols.Smpp = record {
-  smsc_id = refl; host = refl; port = refl; system_type = refl;
-  denied_ids = refl; allowed_ids = refl; preferred_ids = refl;
-  denied_prefixes = refl; allowed_prefixes = refl; preferred_prefixes = refl;
-  max_pending_submits = refl; window = refl; wait_ack = refl; keepalive = refl; enquire_link_interval = refl; reconnect_delay = refl;
-  needs_host = refl; needs_port = refl;
+  smsc_id = refl;
+  host = refl;
+  port = refl;
+  system_type = refl;
+  denied_ids = refl;
+  allowed_ids = refl;
+  preferred_ids = refl;
+  denied_prefixes = refl;
+  allowed_prefixes = refl;
+  preferred_prefixes = refl;
+  max_pending_submits = refl;
+  window = refl;
+  wait_ack = refl;
+  keepalive = refl;
+  enquire_link_interval = refl;
+  reconnect_delay = refl;
+  needs_host = refl;
+  needs_port = refl;
 }
 has_rows other = record {
-  smsc_id = refl; host = refl; port = refl; system_type = refl;
-  denied_ids = refl; allowed_ids = refl; preferred_ids = refl;
-  denied_prefixes = refl; allowed_prefixes = refl; preferred_prefixes = refl;
-  max_pending_submits = refl; window = refl; wait_ack = refl; keepalive = refl; enquire_link_interval = refl; reconnect_delay = refl;
-  needs_host = refl; needs_port = refl;
+  smsc_id = refl;
+  host = refl;
+  port = refl;
+  system_type = refl;
+  denied_ids = refl;
+  allowed_ids = refl;
+  preferred_ids = refl;
+  denied_prefixes = refl;
+  allowed_prefixes = refl;
+  preferred_prefixes = refl;
+  max_pending_submits = refl;
+  window = refl;
+  wait_ack = refl;
+  keepalive = refl;
+  enquire_link_interval = refl;
+  reconnect_delay = refl;
+  needs_host = refl;
+  needs_port = refl;
 }
 
 login_within : (kind : LinkKind) (group : List Set) → group_fault (link kind) group ≡ None → lacking (link kind) group ≡ None →
     IsLogin kind (octets (codes "smsc-username") group) (octets (codes "smsc-password") group)
 unfolding range_of need_of rows
-login_within protocols.Smpp group right whole =
-    (value_always (link protocols.Smpp) group right whole (codes "smsc-username") (Of (grammars.Printable 15)) (IsPrintable 15) refl refl (forms.printable 15),
-    value_always (link protocols.Smpp) group right whole (codes "smsc-password") (Of (grammars.Printable 8)) (IsPrintable 8) refl refl (forms.printable 8))
-login_within protocols.Ucp group right whole =
-    (value_always (link protocols.Ucp) group right whole (codes "smsc-username") (Of (grammars.Digits 16)) (IsDigits 16) refl refl (forms.digits 16),
-    value_always (link protocols.Ucp) group right whole (codes "smsc-password") (Of (grammars.Printable 16)) (IsPrintable 16) refl refl (forms.printable 16))
-login_within protocols.Cimd2 group right whole =
-    (value_always (link protocols.Cimd2) group right whole (codes "smsc-username") (Of (grammars.Printable 32)) (IsPrintable 32) refl refl (forms.printable 32),
-    value_always (link protocols.Cimd2) group right whole (codes "smsc-password") (Of (grammars.Printable 32)) (IsPrintable 32) refl refl (forms.printable 32))
+login_within protocols.Smpp group right whole = (
+  value_always (link protocols.Smpp) group right whole (codes "smsc-username") (Of (grammars.Printable 15)) (IsPrintable 15) refl refl (forms.printable 15),
+  value_always (link protocols.Smpp) group right whole (codes "smsc-password") (Of (grammars.Printable 8)) (IsPrintable 8) refl refl (forms.printable 8),
+)
+login_within protocols.Ucp group right whole = (
+  value_always (link protocols.Ucp) group right whole (codes "smsc-username") (Of (grammars.Digits 16)) (IsDigits 16) refl refl (forms.digits 16),
+  value_always (link protocols.Ucp) group right whole (codes "smsc-password") (Of (grammars.Printable 16)) (IsPrintable 16) refl refl (forms.printable 16),
+)
+login_within protocols.Cimd2 group right whole = (
+  value_always (link protocols.Cimd2) group right whole (codes "smsc-username") (Of (grammars.Printable 32)) (IsPrintable 32) refl refl (forms.printable 32),
+  value_always (link protocols.Cimd2) group right whole (codes "smsc-password") (Of (grammars.Printable 32)) (IsPrintable 32) refl refl (forms.printable 32),
+)
 
 wider : (less most : ℕ) (v : List ℕ) → less ≤ most → IsPrintable less v → IsPrintable most v
 wider less most v low is = ((is.0.0, omega (arith, is.0.1)), is.1)
@@ -169,13 +191,13 @@ module _ (kind : LinkKind) (group : List Set) (right : group_fault (link kind) g
   window_within : IsWithin 1 50 (window_of group)
   unfolding window_of
   window_within = let rows = has_rows kind in
-    small_or (link kind) group right (codes "max-pending-submits") _ 1 50 rows.max_pending_submits
+      small_or (link kind) group right (codes "max-pending-submits") _ 1 50 rows.max_pending_submits
       (small_or (link kind) group right (codes "window") 10 1 50 rows.window (omega arith, omega arith) (omega arith)) (omega arith)
 
   keepalive_within : IsWithin 0 3600 (keepalive_of group)
   unfolding keepalive_of
   keepalive_within = let rows = has_rows kind in
-    small_or (link kind) group right (codes "keepalive") _ 0 3600 rows.keepalive
+      small_or (link kind) group right (codes "keepalive") _ 0 3600 rows.keepalive
       (small_or (link kind) group right (codes "enquire-link-interval") 30 0 3600 rows.enquire_link_interval (omega arith, omega arith) (omega arith)) (omega arith)
 
   pub link_within : IsLink (link_of group)
@@ -221,18 +243,18 @@ module _ (group : List Set) (right : group_fault user group ≡ None) (whole : l
   pub user_within : IsUser (user_of group)
   unfolding user_of identity_of ways_of range_of need_of rows
   user_within =
-    let username = octets_always user group right whole (codes "username") 1 64 refl refl in
-    record {
-      username = username;
-      password = octets_always user group right whole (codes "password") 1 64 refl refl;
-      name = octets_or user group right (codes "name") (octets (codes "username") group) 1 64 refl username;
-      default_smsc = (octets_or user group right (codes "default-smsc") [] 0 64 refl (omega arith, omega arith)).1;
-      forced_smsc = (octets_or user group right (codes "forced-smsc") [] 0 64 refl (omega arith, omega arith)).1;
-      default_sender = sender_of_group (codes "default-sender") group;
-      faked_sender = sender_of_group (codes "faked-sender") group;
-      max_messages = small_or user group right (codes "max-messages") 10 1 100 refl (omega arith, omega arith) (omega arith);
-      texts = texts_within user group right refl refl refl refl;
-    }
+      let username = octets_always user group right whole (codes "username") 1 64 refl refl in
+      record {
+        username = username;
+        password = octets_always user group right whole (codes "password") 1 64 refl refl;
+        name = octets_or user group right (codes "name") (octets (codes "username") group) 1 64 refl username;
+        default_smsc = (octets_or user group right (codes "default-smsc") [] 0 64 refl (omega arith, omega arith)).1;
+        forced_smsc = (octets_or user group right (codes "forced-smsc") [] 0 64 refl (omega arith, omega arith)).1;
+        default_sender = sender_of_group (codes "default-sender") group;
+        faked_sender = sender_of_group (codes "faked-sender") group;
+        max_messages = small_or user group right (codes "max-messages") 10 1 100 refl (omega arith, omega arith) (omega arith);
+        texts = texts_within user group right refl refl refl refl;
+      }
 
 abbrev service : Role
 service = Taken kinds.Service
@@ -244,14 +266,14 @@ module _ (group : List Set) (right : group_fault service group ≡ None) (whole 
   pub service_within : IsService (service_of group)
   unfolding service_of names_of answers_of range_of need_of rows
   service_within =
-    let keyword = value_always service group right whole (codes "keyword") (Of (grammars.Word 64)) (IsWord 64) refl refl (forms.word 64) in
-    record {
-      keyword = keyword;
-      aliases = list_of service group right (codes "aliases") refl;
-      name = octets_or service group right (codes "name") (octets (codes "keyword") group) 1 64 refl keyword.0;
-      text = up_to_2048 (codes "text") refl;
-      get_url = up_to_2048 (codes "get-url") refl;
-      answers = one_of_two service group (codes "text") (codes "get-url") refl whole;
-      max_messages = small_or service group right (codes "max-messages") 1 1 100 refl (omega arith, omega arith) (omega arith);
-      texts = texts_within service group right refl refl refl refl;
-    }
+      let keyword = value_always service group right whole (codes "keyword") (Of (grammars.Word 64)) (IsWord 64) refl refl (forms.word 64) in
+      record {
+        keyword = keyword;
+        aliases = list_of service group right (codes "aliases") refl;
+        name = octets_or service group right (codes "name") (octets (codes "keyword") group) 1 64 refl keyword.0;
+        text = up_to_2048 (codes "text") refl;
+        get_url = up_to_2048 (codes "get-url") refl;
+        answers = one_of_two service group (codes "text") (codes "get-url") refl whole;
+        max_messages = small_or service group right (codes "max-messages") 1 1 100 refl (omega arith, omega arith) (omega arith);
+        texts = texts_within service group right refl refl refl refl;
+      }

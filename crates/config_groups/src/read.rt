@@ -114,7 +114,8 @@ fn config_of(alloc: Global, read: Read) -> Result<Settings, ConfigFault>
 
 /// Reads the configuration whose first file has that name (docs/FORMATS.md, 'Configuration').
 ///
-/// Each fault is the first in the order of reading. `NoFile` only where the shelf's count of faults rose. `Memory`.
+/// Settings lie within the ranges of the table there (`specs/Ranges.antt`). Each fault is the first in the order of reading. `NoFile` only
+/// where the shelf's count of faults rose. `Memory`.
 pub fn read_config<S: Shelf>(
     alloc: Global,
     shelf: &mut S,

@@ -1,7 +1,9 @@
 -- A value that a variable may hold has the form that its grammar names.
 use Rattle.std.proofs.Common.{◌≡◌, refl, subst, ℕ, Bool, true, cond, List, [], ◌∷◌, length, inl, inr, arith, leb-true, All, IfSome, filter}
+use Rattle.std.specs.Prelude.{◌≤◌, ◌&&◌, nat_le, IsUtf8}
 use Rattle.std.specs.Char.{is_ascii_digit}
 use Rattle.std.specs.List.{list_all, slice_split}
+use Rattle.std.specs.Str.{is_utf8}
 use Rattle.std.proofs.lemmas.Bool.{and_parts, cases_Bool, eqb-true, eqb-false, not-true, false≢true}
 use Rattle.std.proofs.lemmas.Bool.Decides.{nat_tests}
 use Rattle.std.proofs.lemmas.List.Elements.{All-nil, All-cons}
@@ -57,6 +59,11 @@ pub text : (most : ℕ) (value : List ℕ) → is_text most value ≡ true → I
 text most value is =
     let parts = and_parts _ _ is in
     (IsUtf8-from_is_utf8 value parts.0, leb-true (characters value) most parts.1)
+
+pub utf8 : (most : ℕ) (value : List ℕ) → (nat_le (length value) most && is_utf8 value) ≡ true → IsUtf8 value × (length value ≤ most)
+utf8 most value is =
+    let parts = and_parts _ _ is in
+    (IsUtf8-from_is_utf8 value parts.1, leb-true (length value) most parts.0)
 
 -- ---- lists
 
