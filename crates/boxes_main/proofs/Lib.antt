@@ -1,6 +1,6 @@
 pub mod Ending
 pub mod Gives
 pub mod OpeningLemmas
-pub mod Printing
+pub mod Printed
 pub mod Sessions
 pub mod Under
