@@ -7,3 +7,4 @@ pub mod Fields
 pub mod Passed
 pub mod Settings
 pub mod Config
+pub mod Ranges

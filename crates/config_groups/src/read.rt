@@ -3,6 +3,7 @@
 ghost use Rattle.std.specs.Prelude.{◌≡◌, ◌⊎◌, ◌≤◌, IfOk, IfErr, IfSome, IsErrOf, option_map};
 ghost use Rattle.kn_base.specs.Count.{Rose};
 ghost use Rattle.config_groups.specs.Config as spec;
+ghost use Rattle.config_groups.specs.Ranges.{AreSettings};
 
 use crate::fault::first_fault;
 use crate::group::{Set, groups_of};
@@ -113,13 +114,15 @@ fn config_of(alloc: Global, read: Read) -> Result<Settings, ConfigFault>
 
 /// Reads the configuration whose first file has that name (docs/FORMATS.md, 'Configuration').
 ///
-/// Each fault is the first in the order of reading. `NoFile` only where the shelf's count of faults rose. `Memory`.
+/// Settings lie within the ranges of the table there (`specs/Ranges.antt`). Each fault is the first in the order of reading. `NoFile` only
+/// where the shelf's count of faults rose. `Memory`.
 pub fn read_config<S: Shelf>(
     alloc: Global,
     shelf: &mut S,
     name: &[u8],
 ) -> Result<Settings, ConfigFault>
     ensures read { IfSome (S.files shelf.old) (λ all. spec.IsConfig all name.now (S.faults shelf.old) (S.faults shelf.new) result) }
+    ensures ranges { IfOk result AreSettings }
     ensures kept { S.files shelf.new ≡ S.files shelf.old }
     ensures missed { IsErrOf result ConfigFault.NoFile → Rose (S.faults shelf.old) (S.faults shelf.new) }
     ensures not_fewer { S.faults shelf.old ≤ S.faults shelf.new }

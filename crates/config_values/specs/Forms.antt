@@ -29,9 +29,13 @@ abbrev pub IsPath : List ℕ → Type 0
 IsPath [] = ⊥
 IsPath (first ∷ rest) = first ≡ 47
 
--- the entries of a list: at most 1,000, each of 1 to 64 octets
+-- an entry of a list: 1 to 64 octets, any
+abbrev pub IsEntry : List ℕ → Type 0
+IsEntry entry = IsWithin 1 64 (length entry)
+
+-- the entries of a list: at most 1,000
 abbrev pub AreEntries : List (List ℕ) → Type 0
-AreEntries entries = (length entries ≤ 1000) × All (λ entry. IsWithin 1 64 (length entry)) entries
+AreEntries entries = (length entries ≤ 1000) × All IsEntry entries
 
 -- an address that a message can come from, which a record can keep
 abbrev pub IsSender : Address → Type 0

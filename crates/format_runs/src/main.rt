@@ -51,10 +51,12 @@ fn put_case(alloc: Global, kind: &[u8], text: &[u8], report: &mut Octets) -> Res
     }
 }
 
-/// `head`, `request`, `message`, `answer` and `session`.
+/// `head`, `heard`, `request`, `message`, `answer` and `session`.
 fn put_http(alloc: Global, kind: &[u8], text: &[u8], report: &mut Octets) -> Result<(), Memory> {
     if kind == b"head".as_slice() {
         head::put_head(alloc, text, report)
+    } else if kind == b"heard".as_slice() {
+        head::put_heard(alloc, text, report)
     } else if kind == b"request".as_slice() {
         request::put_request(alloc, text, report)
     } else if kind == b"message".as_slice() {

@@ -17,7 +17,7 @@ none_of_nothing h rest s =
     absurd (omega (arith, length-append (print_blank h.blank) (h.method ++ 32 ∷ back), length-append h.method (32 ∷ back)))
 
 -- a head of two lines
-abbrev shortest : RequestHead
+abbrev pub shortest : RequestHead
 shortest = record {
   blank = [];
   method = codes "GET";
@@ -32,7 +32,7 @@ slash_is_ascii : IsAscii (codes "/")
 slash_is_ascii zero = omega arith
 slash_is_ascii (suc i) = omega arith
 
-is_shortest : IsRequestHead shortest
+pub is_shortest : IsRequestHead shortest
 unfolding is_token_byte
 is_shortest = record {
   method = (omega arith, AllPass-from_list_all is_token_byte (codes "GET") refl);

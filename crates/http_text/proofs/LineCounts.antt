@@ -17,7 +17,7 @@ use Rattle.http_text.specs.HeadSteps.{behind_blank, begins_after, has_too_many_l
 -- ---- an octet that ends no line
 
 -- no octet of the list is a line feed
-abbrev IsPlain : List ℕ → Type 0
+abbrev pub IsPlain : List ℕ → Type 0
 IsPlain octets = All (λ b. eqb b 10 ≡ false) octets
 
 begins-plain : (lines : ℕ) (word rest : List ℕ) → IsPlain word → begins_after (suc lines) (word ++ rest) ≡ begins_after (suc lines) rest
@@ -27,20 +27,20 @@ begins-plain lines (b ∷ word) rest h =
     ∙ begins-plain lines word rest (All-tail (λ v. eqb v 10 ≡ false) b word h)
 
 -- one that is no newline is no line feed
-not_feed : (b : ℕ) → is_newline b ≡ false → eqb b 10 ≡ false
+pub not_feed : (b : ℕ) → is_newline b ≡ false → eqb b 10 ≡ false
 not_feed b h = or_second (eqb b 13) (eqb b 10) h
   where
     or_second : (p q : Bool) → (p || q) ≡ false → q ≡ false
     or_second true q e = cc
     or_second false q e = e
 
-plain_token : (word : List ℕ) → AllPass is_token_byte word → IsPlain word
+pub plain_token : (word : List ℕ) → AllPass is_token_byte word → IsPlain word
 plain_token word all = λ i d h. not_feed _ (token_is_no_newline _ (all i d h))
 
-plain_uri : (word : List ℕ) → AllPass is_uri_byte word → IsPlain word
+pub plain_uri : (word : List ℕ) → AllPass is_uri_byte word → IsPlain word
 plain_uri word all = λ i d h. let passes = all i d h in grind (arith, nat_tests)
 
-plain_value : (word : List ℕ) → AllPass is_value_byte word → IsPlain word
+pub plain_value : (word : List ℕ) → AllPass is_value_byte word → IsPlain word
 plain_value word all = λ i d h. let passes = all i d h in grind (arith, nat_tests)
 
 -- ---- lines
@@ -71,7 +71,7 @@ begins-version lines minor rest =
     let e : eqb (48 + minor) 10 ≡ false = grind (arith, nat_tests) in
     ap (λ t. cond t (begins_after lines rest) (begins_after (suc lines) rest)) e
 
-behind_blank-print : (ends : List LineEnd) (rest : List ℕ) → Stops is_newline rest → behind_blank (print_blank ends ++ rest) ≡ rest
+pub behind_blank-print : (ends : List LineEnd) (rest : List ℕ) → Stops is_newline rest → behind_blank (print_blank ends ++ rest) ≡ rest
 behind_blank-print [] [] h = absurd h
 behind_blank-print [] (b ∷ rest) h = ap (λ t. cond t (behind_blank rest) (b ∷ rest)) h
 behind_blank-print (crlf ∷ ends) rest h = behind_blank-print ends rest h
@@ -80,17 +80,17 @@ behind_blank-print (lf ∷ ends) rest h = behind_blank-print ends rest h
 -- ---- a head without the line end behind its fields
 
 -- the request's line and the header lines, and what follows them
-abbrev start : RequestHead → List ℕ → List ℕ
+abbrev pub start : RequestHead → List ℕ → List ℕ
 start h rest =
     print_blank h.blank ++ (h.method ++ 32 ∷ (h.target ++ 32 ∷ (print_version h.minor ++ (print_end h.line_end ++ (flat_map print_field h.fields ++ rest)))))
 
-print-start : (h : RequestHead) (rest : List ℕ) → print_request h ++ rest ≡ start h (print_end h.last ++ rest)
+pub print-start : (h : RequestHead) (rest : List ℕ) → print_request h ++ rest ≡ start h (print_end h.last ++ rest)
 print-start h rest =
     print_request-append h rest
     ∙ ap (λ section. print_blank h.blank ++ (h.method ++ 32 ∷ (h.target ++ 32 ∷ (print_version h.minor ++ (print_end h.line_end ++ section)))))
     (append_assoc (flat_map print_field h.fields) (print_end h.last) rest)
 
-start-append : (h : RequestHead) (rest more : List ℕ) → start h rest ++ more ≡ start h (rest ++ more)
+pub start-append : (h : RequestHead) (rest more : List ℕ) → start h rest ++ more ≡ start h (rest ++ more)
 start-append h rest more = regroup (print_blank h.blank) h.method h.target (print_version h.minor) (print_end h.line_end) (flat_map print_field h.fields) rest more
   where
     regroup : (a b c d e f r m : List ℕ)
@@ -114,7 +114,7 @@ begins-start h lines rest is e =
 -- ---- fronts
 
 -- what begins with the front of a text is that front or goes on from it
-split_front : (a b p r : List ℕ) → a ++ b ≡ p ++ r → length p ≤ length a → (a ≡ p ++ drop (length p) a) × (drop (length p) a ++ b ≡ r)
+pub split_front : (a b p r : List ℕ) → a ++ b ≡ p ++ r → length p ≤ length a → (a ≡ p ++ drop (length p) a) × (drop (length p) a ++ b ≡ r)
 split_front a b p r e within =
     let same : take (length p) a ≡ p = sym (take-append-le (length p) a b within) ∙ ap (take (length p)) e ∙ take-append_seam p r in (
       sym (take-append-drop (length p) a) ∙ ap (λ front. front ++ drop (length p) a) same,

@@ -149,10 +149,11 @@ module _ {S : Type 0} (leads : S → List Deed → S → Type 0) (faults : S →
         parts = parts;
         hands = record {
           kept = h.kept;
-          request = h.request;
+          front = h.front;
           head = h.head;
-          parts = h.parts;
-          phase = h.phase;
+          heard = h.heard;
+          asks = h.asks;
+          in_phase = h.in_phase;
           stands = h.stands;
           has = has_done leads faults can_submit settings store start told leads_on (times_in h.kept ++ time ∷ []) (deeds_in h.kept) deed tells later after
               (subst (λ deeds. Has leads faults can_submit settings store start told (times_in h.kept ++ time ∷ []) deeds tells later) (append-nil (deeds_in h.kept)) h.has)

@@ -90,15 +90,15 @@ module _ {S : Type 0} (leads : S → List Deed → S → Type 0) (faults : S →
         said_last = [];
         kept_each = s.kept_each;
         last_one = tt;
-        heard = s.heard;
-        said = s.said ∙ sym (append-nil (said_in kept));
+        hears = s.heard;
+        says = s.said ∙ sym (append-nil (said_in kept));
         timed = h.timed;
         handed_in = refl;
         ends = (silence, refl);
       };
       prompt = s.prompt;
-      within = subst (λ n. n ≤ budget) (sym s.taken) within;
-      spent = subst (λ n. IsSpent end budget n) (sym s.taken) spent;
+      within = subst (λ n. n ≤ budget) (sym s.many) within;
+      spent = subst (λ n. IsSpent end budget n) (sym s.many) spent;
       fell = fell_behind start.counts b.counts c.counts (none_rose start.counts b.counts ended s.counts) fell;
       caused = caused;
     };
@@ -120,7 +120,7 @@ module _ {S : Type 0} (leads : S → List Deed → S → Type 0) (faults : S →
       let counts : c.counts ≡ record (start.counts) { ended = ended || start.counts.ended } = same ∙ s.counts in
       let heard : heard_of (s.pieces ++ more.pieces) ≡ heard_of s.pieces =
       heard_of-append s.pieces more.pieces ∙ ap (λ back. heard_of s.pieces ++ back) more.nothing_heard ∙ append-nil (heard_of s.pieces) in
-      let many : length (heard_of (s.pieces ++ more.pieces)) ≡ taken = ap length heard ∙ s.taken in
+      let many : length (heard_of (s.pieces ++ more.pieces)) ≡ taken = ap length heard ∙ s.many in
       record {
         readings = h.readings;
         deeds = deeds_in (kept ++ e ∷ []);
@@ -136,8 +136,8 @@ module _ {S : Type 0} (leads : S → List Deed → S → Type 0) (faults : S →
             said_last = octets;
             kept_each = s.kept_each;
             last_one = is;
-            heard = heard ∙ s.heard ∙ sym (append_assoc (heard_in kept) e.octets left) ∙ ap (λ front. front ++ left) (sym (heard_last kept e));
-            said = said_of-append s.pieces more.pieces ∙ ap (λ front. front ++ said_of more.pieces) s.said ∙ ap (λ back. said_in kept ++ back) more.said;
+            hears = heard ∙ s.heard ∙ sym (append_assoc (heard_in kept) e.octets left) ∙ ap (λ front. front ++ left) (sym (heard_last kept e));
+            says = said_of-append s.pieces more.pieces ∙ ap (λ front. front ++ said_of more.pieces) s.said ∙ ap (λ back. said_in kept ++ back) more.said;
             timed = h.timed;
             handed_in = refl;
             ends = says;

@@ -1,8 +1,8 @@
 -- Exchanges one behind the other, and what was heard and said in turn.
 use Rattle.std.proofs.Common.{◌≡◌, ◌≢◌, ◌⊎◌, inl, inr, ℕ, List, [], ◌∷◌, ◌++◌, map, All, refl, ap, sym, ◌∙◌, subst, append_assoc}
-use Rattle.std.specs.List.{concat}
-use Rattle.std.proofs.lemmas.List.{append-nil, map-append}
-use Rattle.std.proofs.lemmas.List.Folds.{concat-append}
+use Rattle.std.specs.List.{flat_map}
+use Rattle.std.proofs.lemmas.List.{append-nil}
+use Rattle.std.proofs.lemmas.Grind.{flat_map-append}
 use Rattle.config_groups.specs.declared.settings.Settings.{Settings}
 use Rattle.gate_model.specs.Acceptor.{Deed}
 use Rattle.http_text.specs.Head.{NeedsMore}
@@ -13,22 +13,20 @@ use Rattle.sendsms_http.specs.Session.{Exchange, text_of, IsKept, heard_in, said
 
 -- ---- one exchange more
 
-concat_last : {A : Type 0} (f : Exchange → List A) (kept : List Exchange) (last : Exchange)
-    → concat (map f (kept ++ last ∷ [])) ≡ concat (map f kept) ++ f last
-concat_last f kept last =
-    ap concat (map-append f kept (last ∷ [])) ∙ concat-append (map f kept) (f last ∷ []) ∙ ap (λ back. concat (map f kept) ++ back) (append-nil (f last))
+one_last : {A : Type 0} (f : Exchange → List A) (kept : List Exchange) (last : Exchange) → flat_map f (kept ++ last ∷ []) ≡ flat_map f kept ++ f last
+one_last f kept last = flat_map-append f kept (last ∷ []) ∙ ap (λ back. flat_map f kept ++ back) (append-nil (f last))
 
 pub heard_last : (kept : List Exchange) (last : Exchange) → heard_in (kept ++ last ∷ []) ≡ heard_in kept ++ last.octets
-heard_last kept last = concat_last (λ exchange. exchange.octets) kept last
+heard_last kept last = one_last (λ exchange. exchange.octets) kept last
 
 pub said_last : (kept : List Exchange) (last : Exchange) → said_in (kept ++ last ∷ []) ≡ said_in kept ++ text_of last
-said_last kept last = concat_last text_of kept last
+said_last kept last = one_last text_of kept last
 
 pub times_last : (kept : List Exchange) (last : Exchange) → times_in (kept ++ last ∷ []) ≡ times_in kept ++ last.times
-times_last kept last = concat_last (λ exchange. exchange.times) kept last
+times_last kept last = one_last (λ exchange. exchange.times) kept last
 
 pub deeds_last : (kept : List Exchange) (last : Exchange) → deeds_in (kept ++ last ∷ []) ≡ deeds_in kept ++ last.deeds
-deeds_last kept last = concat_last (λ exchange. exchange.deeds) kept last
+deeds_last kept last = one_last (λ exchange. exchange.deeds) kept last
 
 -- ---- readings
 

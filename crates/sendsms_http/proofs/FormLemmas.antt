@@ -6,11 +6,12 @@ use Rattle.std.proofs.lemmas.List.Elements.{All-weaker}
 use Rattle.std.proofs.lemmas.List.Sums.{AllPass-from_list_all}
 use Rattle.std.proofs.lemmas.Bool.{and_parts, leb-true}
 use Rattle.sms_record.specs.Record.{IsSms, IsDigit}
-use Rattle.sendsms_http.specs.declared.answer.Answer.{Answer}
+use Rattle.config_groups.specs.declared.settings.user.User.{User}
+use Rattle.http_text.specs.declared.answer.Answer.{Answer}
 use Rattle.sendsms_http.specs.declared.form.Form.{Form}
 use Rattle.sendsms_http.specs.declared.form.Variable.TheVariants.{Username, From, To, Text}
 use Rattle.sendsms_http.specs.declared.form.pairs.Pair.{Pair}
-use Rattle.sendsms_http.specs.Form.{is_authorized, is_form, is_held, variables, value, form_of, read_form, message, is_number, is_text, is_text_octet}
+use Rattle.sendsms_http.specs.Form.{is_form, is_held, variables, value, form_of, read_form, message, is_number, is_text, is_text_octet}
 
 digit_says : (octet : ℕ) → is_ascii_digit octet ≡ true → IsDigit octet
 digit_says octet h = grind (arith, nat_tests)
@@ -29,25 +30,24 @@ text_says octets h =
     let parts = and_parts _ _ h in
     (leb-true _ _ parts.0, All-weaker _ _ text_octet_says octets (AllPass-from_list_all is_text_octet octets parts.1))
 
--- what is taken passed both tests
-taken : (authorized passed : Bool) (a b : Answer) (form other : Form)
-    → (if not authorized then Err a else (if not passed then Err b else Ok form)) ≡ Ok other → (passed ≡ true) × (form ≡ other)
-taken true true a b form other h = (refl, cc)
-taken true false a b form other h = cc
-taken false passed a b form other h = cc
+-- what is taken passed the test
+taken : (passed : Bool) (a : Answer) (form other : Form) → (if passed then Ok form else Err a) ≡ Ok other → (passed ≡ true) × (form ≡ other)
+taken true a form other h = (refl, cc)
+taken false a form other h = cc
 
 -- each variable of a form holds what it may
 held : (given : List Pair) (form : Form) → read_form given ≡ Ok form → (n : ℕ) → n < 5 → is_held given (get_or variables n Username) ≡ true
 held given form h n below =
-    let passed = (taken (is_authorized given) (is_form given) _ _ (form_of given) form h).0 in
+    let passed = (taken (is_form given) _ (form_of given) form h).0 in
     AllPass-from_list_all (is_held given) variables (and_parts _ _ passed).1 n Username below
 
 -- its numbers are addresses, and its text is septets
-pub IsSms-message : (given : List Pair) (form : Form) (now : ℕ) → read_form given ≡ Ok form → now < 2 ^ 37 → IsSms (message form now)
-IsSms-message given form now h fits =
-    let same : form_of given ≡ form = (taken (is_authorized given) (is_form given) _ _ (form_of given) form h).1 in
+pub IsSms-message : (user : User) (given : List Pair) (form : Form) (now : ℕ) → read_form given ≡ Ok form → now < 2 ^ 37 → length user.name ≤ 64
+    → IsSms (message user form now)
+IsSms-message user given form now h fits short =
+    let same : form_of given ≡ form = (taken (is_form given) _ (form_of given) form h).1 in
     let text = text_says (value Text given) (held given form h 4 (omega arith)) in
-    subst (λ (f : Form). IsSms (message f now)) same (record {
+    subst (λ (f : Form). IsSms (message user f now)) same (record {
       sender = number_says (value From given) (held given form h 2 (omega arith));
       receiver = number_says (value To given) (held given form h 3 (omega arith));
       class = tt;
@@ -64,5 +64,5 @@ IsSms-message given form now h fits =
       smsc = omega arith;
       url = omega arith;
       account = omega arith;
-      service = omega arith;
+      service = short;
     })

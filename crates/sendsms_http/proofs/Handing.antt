@@ -6,7 +6,7 @@ use Rattle.sms_record.specs.declared.address.Address.TheVariants.{Number, Text}
 use Rattle.sms_record.specs.declared.sms.Sms.{Sms}
 use Rattle.sms_record.specs.Record.{IsAddress, IsSms, address, short, long, marks, times, heading, names, contents, sms_octets}
 use Rattle.sms_record.specs.Entry.{accept_size}
-use Rattle.sendsms_http.specs.Acceptor.{MayBeHanded}
+use Rattle.gate_model.specs.Acceptor.{MayBeHanded}
 
 length-address : (a : Address) → IsAddress a → length (address a) ≤ 66
 length-address (Number plus digits) h = let few : length digits ≤ 15 = h.1 in omega arith

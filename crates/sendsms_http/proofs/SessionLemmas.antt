@@ -51,7 +51,7 @@ module _ {S : Type 0} (leads : S → List Deed → S → Type 0) (faults : S →
     heard = refl;
     said = refl;
     prompt = prompt_none settings;
-    taken = refl;
+    many = refl;
     talk = sym (with_more-nil start.talk);
     counts = refl;
   }
@@ -71,7 +71,7 @@ module _ {S : Type 0} (leads : S → List Deed → S → Type 0) (faults : S →
         said = said_of-append s.pieces (Heard octets ∷ []) ∙ append-nil (said_of s.pieces) ∙ s.said;
         prompt = prompt_heard settings s.pieces octets s.prompt
             (record { kept = kept; kept_each = s.kept_each; left = left; heard = s.heard; said = s.said; needs_more = more });
-        taken = ap length heard ∙ length-append (heard_of s.pieces) octets ∙ ap (λ n. n + length octets) s.taken;
+        many = ap length heard ∙ length-append (heard_of s.pieces) octets ∙ ap (λ n. n + length octets) s.many;
         talk = talk ∙ ap (λ t. with_more t (Heard octets ∷ [])) s.talk ∙ with_more-with_more start.talk s.pieces (Heard octets ∷ []);
         counts = counts ∙ s.counts;
       }
@@ -86,7 +86,7 @@ module _ {S : Type 0} (leads : S → List Deed → S → Type 0) (faults : S →
     heard = s.heard;
     said = s.said;
     prompt = s.prompt;
-    taken = s.taken;
+    many = s.many;
     talk = ap (λ (d : Course). d.talk) e.same ∙ s.talk;
     counts = ap (λ (d : Course). d.counts) e.same ∙ ap (λ (d : Counts). record d { ended = true }) s.counts;
   }
@@ -105,7 +105,7 @@ module _ {S : Type 0} (leads : S → List Deed → S → Type 0) (faults : S →
         said = said_of-append s.pieces says.pieces ∙ ap (λ front. front ++ said_of says.pieces) s.said ∙ ap (λ back. said_in kept ++ back) says.said
             ∙ sym (said_last kept e);
         prompt = prompt_said settings s.pieces says.pieces s.prompt says.nothing_heard;
-        taken = ap length heard ∙ s.taken;
+        many = ap length heard ∙ s.many;
         talk = ap (λ (d : Course). d.talk) says.after ∙ ap (λ t. with_more t says.pieces) s.talk ∙ with_more-with_more start.talk s.pieces says.pieces;
         counts = ap (λ (d : Course). d.counts) says.after ∙ s.counts;
       }

@@ -9,9 +9,9 @@ use Rattle.gate_model.specs.declared.reply.Reply.{Reply}
 use Rattle.gate_model.specs.declared.reply.Refusal.{Refusal}
 use Rattle.gate_model.specs.declared.reply.Refusal.TheVariants as refusal_is
 use Rattle.http_text.specs.Answer.{reply_text}
-use Rattle.http_text.specs.Head.{head_of, NeedsMore}
+use Rattle.http_text.specs.Head.{NeedsMore}
 use Rattle.http_text.specs.declared.answer.Answer.{Answer}
-use Rattle.httparse.specs.Grammar.{RequestHead, print_request}
+use Rattle.http_text.specs.declared.head.Head.{Head}
 use Rattle.kn_base.specs.Clock.{Adds}
 use Rattle.kn_base.specs.Count.{Counts}
 use Rattle.kn_base.specs.Course.{Course, Fails, IsQuiet}
@@ -57,13 +57,13 @@ same_end (end_is.Budget taken) result before now other is = is
 same_end end_is.Memory result before now other is = is
 
 -- what was handed in for a request, and its answer by the outcome
-abbrev decided : RequestHead → ℕ → List Sms → Result Reply Refusal → Exchange
-decided request time parts outcome = record {
-  octets = print_request request;
+abbrev decided : List ℕ → Head → ℕ → List Sms → Result Reply Refusal → Exchange
+decided front head time parts outcome = record {
+  octets = front;
   times = time ∷ [];
   deeds = record { parts = parts; time = time; outcome = outcome } ∷ [];
   answer = answer_of outcome;
-  close = ((head_of request).close || (head_of request).body) || (closes_always (answer_of outcome) || is_failed outcome);
+  close = (head.close || head.body) || (closes_always (answer_of outcome) || is_failed outcome);
 }
 
 module _ {S : Type 0} (leads : S → List Deed → S → Type 0) (faults : S → ℕ) (can_submit : S → Type 0) (settings : Settings) (store : S) (start : Course) (told : Option (List ℕ)) where
@@ -90,8 +90,8 @@ module _ {S : Type 0} (leads : S → List Deed → S → Type 0) (faults : S →
         ended = ended;
         exchange = e;
         exchanged = o.exchanged;
-        answer = o.answer;
-        close = o.close;
+        answered = o.answers;
+        closes = o.closes;
         stands = subst (λ left. Standing kept left visit.taken ended b) o.cut s;
         has = subst (λ deeds. Having (times_in (kept ++ e ∷ [])) deeds tells_now later) deeds
             (subst (λ times. Having times (deeds_in kept) tells_now later) (sym (times_last kept e)) read);
@@ -121,14 +121,15 @@ module _ {S : Type 0} (leads : S → List Deed → S → Type 0) (faults : S →
     ready = w.ready;
   }
   from_looks octets budget now visit (Submit time parts) b tells tells_now later w adds looks most =
-      let among : AreAmong (time ∷ []) (now ∷ []) = inl (looks.time, tt) in
+      let among : AreAmong (time ∷ []) (now ∷ []) = inl (looks.read_at, tt) in
       let read = has_read leads faults can_submit settings store start told (times_in w.kept) (time ∷ []) (deeds_in w.kept) tells tells_now later now w.has adds among in (
         record {
           kept = w.kept;
-          request = looks.request;
+          front = looks.front;
           head = looks.head;
-          parts = subst (λ at. asked settings (head_of looks.request) at ≡ Ok parts.items) (sym looks.time) looks.parts;
-          phase = looks.phase;
+          heard = looks.heard;
+          asks = subst (λ at. asked settings looks.head at ≡ Ok parts.items) (sym looks.read_at) looks.asks;
+          in_phase = looks.phase;
           stands = subst (λ left. Standing w.kept left visit.taken false b) looks.cut w.stands;
           has = subst (λ deeds. Having (times_in w.kept ++ time ∷ []) deeds tells_now later) (sym (append-nil (deeds_in w.kept))) read;
         },
@@ -169,17 +170,17 @@ module _ {S : Type 0} (leads : S → List Deed → S → Type 0) (faults : S →
           → IsSaid settings now old (Saying close) visit wish → SaysAll (reply_text says.answer close) says.before b → WishedHere budget wish visit b tells_now later
       by true a is said =
           let e = a.exchange in
-          let text : reply_text says.answer true ≡ text_of e = (λ i. reply_text (sym a.answer i) (sym a.close i)) in
+          let text : reply_text says.answer true ≡ text_of e = (λ i. reply_text (sym a.answered i) (sym a.closes i)) in
           let has = has_passed leads faults can_submit settings store start told (times_in (a.kept ++ e ∷ [])) (deeds_in (a.kept ++ e ∷ [])) tells tells_now later now a.has adds in
           subst (λ wish. WishedHere budget wish visit b tells_now later) (sym is) (λ result so.
           let end = same_end end_is.End result start.counts.starved b.counts.starved (λ e. cc) so in
           subst (λ end. Serves leads faults store later settings budget start b told tells_now end) (sym end)
-          (serves_closed leads faults can_submit settings store start told a.kept e old.kept old.taken budget a.ended says.before b tells_now later a.stands a.exchanged has a.close
+          (serves_closed leads faults can_submit settings store start told a.kept e old.kept old.taken budget a.ended says.before b tells_now later a.stands a.exchanged has a.closes
           (subst (λ n. n ≤ budget) same within) (subst (λ octets. SaysAll octets says.before b) text said)))
       by false a is said =
           let e = a.exchange in
-          let text : reply_text says.answer false ≡ text_of e = (λ i. reply_text (sym a.answer i) (sym a.close i)) in
-          let stands = stands_said leads faults can_submit settings store start told a.kept e old.kept old.taken a.ended says.before b a.stands (kept_open e a.ended a.exchanged a.close)
+          let text : reply_text says.answer false ≡ text_of e = (λ i. reply_text (sym a.answered i) (sym a.closes i)) in
+          let stands = stands_said leads faults can_submit settings store start told a.kept e old.kept old.taken a.ended says.before b a.stands (kept_open e a.ended a.exchanged a.closes)
           (subst (λ octets. SaysAll octets says.before b) text said) in
           from_looks old.kept budget now visit wish b tells tells_now later
           (record {
@@ -201,7 +202,7 @@ module _ {S : Type 0} (leads : S → List Deed → S → Type 0) (faults : S →
   from_say_fault old visit budget now b tells tells_now later says adds within = λ result so.
       let a = says.answers in
       let e = a.exchange in
-      let text : reply_text says.answer says.close ≡ text_of e = (λ i. reply_text (sym a.answer i) (sym a.close i)) in
+      let text : reply_text says.answer says.close ≡ text_of e = (λ i. reply_text (sym a.answered i) (sym a.closes i)) in
       let has = has_passed leads faults can_submit settings store start told (times_in (a.kept ++ e ∷ [])) (deeds_in (a.kept ++ e ∷ [])) tells tells_now later now a.has adds in
       serves_cut leads faults can_submit settings store start told a.kept e old.kept old.taken budget a.ended says.before b tells_now later result says.said.0 a.stands a.exchanged has within
       (subst (λ octets. SaysFront octets says.said.0 says.before b) text says.said.1) so
@@ -212,17 +213,17 @@ module _ {S : Type 0} (leads : S → List Deed → S → Type 0) (faults : S →
       → IsAnswered old.phase outcome wish → visit.kept ≡ old.kept → visit.taken ≡ old.taken → WishedHere budget wish visit b tells_now later
   from_answered old visit budget now wish b tells tells_now later outcome d accepted adds is kept same =
       let h = d.hands in
-      let e = decided h.request d.time d.parts outcome in
-      let says : wish ≡ answered outcome ((head_of h.request).close || (head_of h.request).body) = subst (λ phase. IsAnswered phase outcome wish) h.phase is in
-      let comes : ComesTo (asked settings (head_of h.request) d.time) d.time e.deeds e.answer =
-      subst (λ (asks : Result (List Sms) Answer). ComesTo asks d.time e.deeds e.answer) (sym h.parts) (outcome, accepted, refl, refl) in
+      let e = decided h.front h.head d.time d.parts outcome in
+      let says : wish ≡ answered outcome (h.head.close || h.head.body) = subst (λ phase. IsAnswered phase outcome wish) h.in_phase is in
+      let comes : ComesTo (asked settings h.head d.time) d.time e.deeds e.answer =
+      subst (λ (asks : Result (List Sms) Answer). ComesTo asks d.time e.deeds e.answer) (sym h.asks) (outcome, accepted, refl, refl) in
       let request : AnswersRequest settings e = record {
-        request = h.request;
         head = h.head;
+        heard = h.heard;
         now = d.time;
         time = refl;
         comes_to = inl comes;
-        close = ap (λ failed. ((head_of h.request).close || (head_of h.request).body) || (closes_always (answer_of outcome) || failed)) (sym (or_false (is_failed outcome)));
+        close = ap (λ failed. (h.head.close || h.head.body) || (closes_always (answer_of outcome) || failed)) (sym (or_false (is_failed outcome)));
       } in
       let times : times_in h.kept ++ d.time ∷ [] ≡ times_in (h.kept ++ e ∷ []) = sym (times_last h.kept e) in
       let deeds : deeds_in h.kept ++ e.deeds ≡ deeds_in (h.kept ++ e ∷ []) = sym (deeds_last h.kept e) in
@@ -232,10 +233,10 @@ module _ {S : Type 0} (leads : S → List Deed → S → Type 0) (faults : S →
         ended = false;
         exchange = e;
         exchanged = inl request;
-        answer = refl;
-        close = refl;
-        stands = subst (λ n. Standing h.kept (print_request h.request ++ visit.kept) n false b) (sym same)
-            (subst (λ left. Standing h.kept (print_request h.request ++ left) old.taken false b) (sym kept) h.stands);
+        answered = refl;
+        closes = refl;
+        stands = subst (λ n. Standing h.kept (h.front ++ visit.kept) n false b) (sym same)
+            (subst (λ left. Standing h.kept (h.front ++ left) old.taken false b) (sym kept) h.stands);
         has = subst (λ deeds. Having (times_in (h.kept ++ e ∷ [])) deeds tells_now later) deeds
             (subst (λ times. Having times (deeds_in h.kept ++ e.deeds) tells_now later) times has);
         open_yet = λ open_yet. refl;

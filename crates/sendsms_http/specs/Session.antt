@@ -1,19 +1,19 @@
 -- What one connection over HTTP comes to: requests are heard one behind the other, and each is answered, up to the first answer behind
 -- which the connection closes.
 use Rattle.std.specs.Prelude.{◌≡◌, ◌≢◌, ◌⊎◌, ℕ, ◌<◌, ◌≤◌, Bool, true, false, ◌||◌, List, [], ◌∷◌, ◌++◌, length, take, map, All, Option, Some, None, IfSome, Result, Ok, Err, IfOk, ⊤}
-use Rattle.std.specs.List.{concat, list_any}
+use Rattle.std.specs.List.{flat_map, list_any}
 use Rattle.config_groups.specs.declared.settings.Settings.{Settings}
 use Rattle.gate_model.specs.Acceptor.{Deed, CountsFaults}
 use Rattle.gate_model.specs.Reply.{IsAccepted}
 use Rattle.gate_model.specs.declared.reply.Reply.{Reply}
 use Rattle.gate_model.specs.declared.reply.Refusal.{Refusal}
 use Rattle.http_text.specs.Answer.{reply_text}
-use Rattle.http_text.specs.Head.{head_limit, line_limit, head_of, NeverHas, NeedsMore, IsTooLong}
+use Rattle.http_text.specs.Head.{NeverHas, NeedsMore, IsTooLong}
+use Rattle.http_text.specs.OneHead.{IsHead}
 use Rattle.http_text.specs.declared.answer.Answer.{Answer}
 use Rattle.http_text.specs.declared.answer.Answer.TheVariants.{BadRequest, OutOfMemory}
 use Rattle.http_text.specs.declared.answer.spot.Spot.TheVariants as spot_is
 use Rattle.http_text.specs.declared.head.Head.{Head}
-use Rattle.httparse.specs.Grammar.{RequestHead, IsRequestHead, print_request}
 use Rattle.kn_base.specs.Count.{Counts, Rose}
 use Rattle.kn_base.specs.Course.{Course, with_more}
 use Rattle.kn_base.specs.Talk.{said_of, heard_of}
@@ -40,13 +40,6 @@ pub record Exchange : Type 0 where
 abbrev pub text_of : Exchange → List ℕ
 text_of exchange = reply_text exchange.answer exchange.close
 
--- The octets are one head.
-pub record IsHead (octets : List ℕ) (request : RequestHead) : Type 0 where
-  pub octets : octets ≡ print_request request
-  pub form : IsRequestHead request
-  pub few : length request.fields ≤ line_limit
-  pub short : length octets ≤ head_limit
-
 -- what a request came to by what it asks, at a reading: a refusal, or the parts were handed in, and the outcome decides: they were
 -- accepted or refused
 abbrev pub ComesTo : Result (List Sms) Answer → ℕ → List Deed → Answer → Type 0
@@ -72,12 +65,12 @@ closes head deeds answer = (head.close || head.body) || (closes_always answer ||
 
 -- A request was read at one reading of the clock, and what it asks at that decided its answer, but for want of memory.
 pub record AnswersRequest (settings : Settings) (exchange : Exchange) : Type 0 where
-  pub request : RequestHead
-  pub head : IsHead exchange.octets request
+  pub head : Head
+  pub heard : IsHead exchange.octets head
   pub now : ℕ
   pub time : exchange.times ≡ now ∷ []
-  pub comes_to : ComesTo (asked settings (head_of request) now) now exchange.deeds exchange.answer ⊎ IsOutOfMemory exchange.deeds exchange.answer
-  pub close : exchange.close ≡ closes (head_of request) exchange.deeds exchange.answer
+  pub comes_to : ComesTo (asked settings head now) now exchange.deeds exchange.answer ⊎ IsOutOfMemory exchange.deeds exchange.answer
+  pub close : exchange.close ≡ closes head exchange.deeds exchange.answer
 
 -- the octets are no request, and nothing more is waited for: no head can come, or as many octets as are looked at were heard; or more
 -- were needed, and the input ended
@@ -120,16 +113,16 @@ with_last exchanges (Some last) = exchanges ++ last ∷ []
 
 -- what was heard, said, read and handed in, one exchange behind the other
 abbrev pub heard_in : List Exchange → List ℕ
-heard_in exchanges = concat (map (λ exchange. exchange.octets) exchanges)
+heard_in exchanges = flat_map (λ exchange. exchange.octets) exchanges
 
 abbrev pub said_in : List Exchange → List ℕ
-said_in exchanges = concat (map text_of exchanges)
+said_in exchanges = flat_map text_of exchanges
 
 abbrev pub times_in : List Exchange → List ℕ
-times_in exchanges = concat (map (λ exchange. exchange.times) exchanges)
+times_in exchanges = flat_map (λ exchange. exchange.times) exchanges
 
 abbrev pub deeds_in : List Exchange → List Deed
-deeds_in exchanges = concat (map (λ exchange. exchange.deeds) exchanges)
+deeds_in exchanges = flat_map (λ exchange. exchange.deeds) exchanges
 
 -- the times are some of the readings, in their order
 abbrev pub AreAmong : List ℕ → List ℕ → Type 0
@@ -172,8 +165,8 @@ pub record HttpTalk (settings : Settings) (heard said : List ℕ) (ended : Bool)
   pub said_last : List ℕ
   pub kept_each : All (IsKept settings) kept
   pub last_one : IfSome last (IsExchange settings ended)
-  pub heard : heard ≡ heard_in (with_last kept last) ++ rest
-  pub said : said ≡ said_in kept ++ said_last
+  pub hears : heard ≡ heard_in (with_last kept last) ++ rest
+  pub says : said ≡ said_in kept ++ said_last
   pub timed : AreAmong (times_in (with_last kept last)) readings
   pub handed_in : deeds ≡ deeds_in (with_last kept last)
   pub ends : EndsSo end last rest ended said_last

@@ -7,10 +7,11 @@ use Rattle.gate_model.specs.declared.reply.Reply.{Reply}
 use Rattle.gate_model.specs.declared.reply.Refusal.{Refusal}
 use Rattle.gate_model.specs.declared.reply.Refusal.TheVariants as refusal_is
 use Rattle.http_text.specs.Answer.{reply_text}
-use Rattle.http_text.specs.Head.{head_of, NeedsMore}
+use Rattle.http_text.specs.Head.{NeedsMore}
+use Rattle.http_text.specs.OneHead.{IsHead}
 use Rattle.http_text.specs.declared.answer.Answer.{Answer}
 use Rattle.http_text.specs.declared.answer.Answer.TheVariants.{OutOfMemory}
-use Rattle.httparse.specs.Grammar.{RequestHead, print_request}
+use Rattle.http_text.specs.declared.head.Head.{Head}
 use Rattle.kn_base.specs.Count.{Rose}
 use Rattle.kn_base.specs.Course.{Course, with_more, Hears, IsQuiet, Fails, Ends}
 use Rattle.kn_base.specs.Talk.{said_of, heard_of, SaysAll, SaysFront}
@@ -19,7 +20,7 @@ use Rattle.kn_base.specs.declared.piece.Piece.{Piece}
 use Rattle.kn_base.specs.declared.piece.Piece.TheVariants as piece_is
 use Rattle.sms_record.specs.declared.sms.Sms.{Sms}
 use Rattle.sendsms_http.specs.Request.{asked}
-use Rattle.sendsms_http.specs.Session.{Exchange, text_of, IsHead, IsExchange, IsKept, heard_in, said_in, times_in, deeds_in, AreAmong, IsPrompt, AddsAll, Serves}
+use Rattle.sendsms_http.specs.Session.{Exchange, text_of, IsExchange, IsKept, heard_in, said_in, times_in, deeds_in, AreAmong, IsPrompt, AddsAll, Serves}
 use Rattle.sendsms_http.specs.Visit.{FitsPhase, given_octets}
 use Rattle.sendsms_http.specs.declared.http_end.HttpEnd.{HttpEnd}
 use Rattle.sendsms_http.specs.declared.http_end.HttpEnd.TheVariants as end_is
@@ -77,7 +78,7 @@ module _
     pub heard : heard_of pieces ≡ heard_in kept ++ left
     pub said : said_of pieces ≡ said_in kept
     pub prompt : IsPrompt settings pieces
-    pub taken : length (heard_of pieces) ≡ taken
+    pub many : length (heard_of pieces) ≡ taken
     pub talk : now.talk ≡ with_more start.talk pieces
     pub counts : now.counts ≡ record (start.counts) { ended = ended || start.counts.ended }
 
@@ -100,11 +101,12 @@ module _
   pub record Hands
       (left : List ℕ) (taken : ℕ) (now : Course) (tells : Option (List ℕ)) (later : S) (time : ℕ) (parts : List Sms) (deeds : List Deed) (phase : Phase) : Type 0 where
     pub kept : List Exchange
-    pub request : RequestHead
-    pub head : IsHead (print_request request) request
-    pub parts : asked settings (head_of request) time ≡ Ok parts
-    pub phase : phase ≡ Submitting ((head_of request).close || (head_of request).body)
-    pub stands : Stands kept (print_request request ++ left) taken false now
+    pub front : List ℕ
+    pub head : Head
+    pub heard : IsHead front head
+    pub asks : asked settings head time ≡ Ok parts
+    pub in_phase : phase ≡ Submitting (head.close || head.body)
+    pub stands : Stands kept (front ++ left) taken false now
     pub has : Has (times_in kept ++ time ∷ []) (deeds_in kept ++ deeds) tells later
 
   -- An answer is owed.
@@ -114,8 +116,8 @@ module _
     pub ended : Bool
     pub exchange : Exchange
     pub exchanged : IsExchange settings ended exchange
-    pub answer : exchange.answer ≡ answer
-    pub close : exchange.close ≡ close
+    pub answered : exchange.answer ≡ answer
+    pub closes : exchange.close ≡ close
     pub stands : Stands kept (exchange.octets ++ left) taken ended now
     pub has : Has (times_in (kept ++ exchange ∷ [])) (deeds_in (kept ++ exchange ∷ [])) tells later
     pub open_yet : close ≡ false → ended ≡ false

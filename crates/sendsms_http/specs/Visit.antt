@@ -5,14 +5,15 @@ use Rattle.gate_model.specs.Acceptor.{MayBeHanded}
 use Rattle.gate_model.specs.Reply.{IsAccepted}
 use Rattle.gate_model.specs.declared.reply.Reply.{Reply}
 use Rattle.gate_model.specs.declared.reply.Refusal.{Refusal}
-use Rattle.http_text.specs.Head.{head_of, NeedsMore}
+use Rattle.http_text.specs.Head.{NeedsMore}
+use Rattle.http_text.specs.OneHead.{IsHead}
 use Rattle.http_text.specs.Place.{EndsAt}
 use Rattle.http_text.specs.declared.answer.Answer.{Answer}
-use Rattle.httparse.specs.Grammar.{RequestHead, print_request}
+use Rattle.http_text.specs.declared.head.Head.{Head}
 use Rattle.sms_record.specs.declared.sms.Sms.{Sms}
 use Rattle.sendsms_http.specs.Reply.{answer_of, is_failed}
 use Rattle.sendsms_http.specs.Request.{asked}
-use Rattle.sendsms_http.specs.Session.{Exchange, IsHead, IsExchange, AreAmong, closes_always}
+use Rattle.sendsms_http.specs.Session.{Exchange, IsExchange, AreAmong, closes_always}
 use Rattle.sendsms_http.specs.declared.http_end.HttpEnd.{HttpEnd}
 use Rattle.sendsms_http.specs.declared.http_end.HttpEnd.TheVariants as end_is
 use Rattle.sendsms_http.specs.declared.visit.Phase.{Phase}
@@ -35,7 +36,7 @@ budget_of visit = visit.budget
 
 -- A visit that hasn't begun.
 pub record IsNew (budget : ℕ) (visit : Visit) : Type 0 where
-  pub budget : visit.budget ≡ budget
+  pub most : visit.budget ≡ budget
   pub taken : visit.taken ≡ 0
   pub kept : visit.kept ≡ []
   pub phase : visit.phase ≡ Fresh
@@ -83,13 +84,14 @@ IsPhaseOf wish phase = ⊥
 
 -- A request was cut off the front of the octets, and its parts are to be handed in; the connection closes behind its answer, or not.
 pub record Asks (settings : Settings) (now : ℕ) (octets : List ℕ) (visit : Visit) (time : ℕ) (parts : List Sms) : Type 0 where
-  pub request : RequestHead
-  pub head : IsHead (print_request request) request
-  pub cut : octets ≡ print_request request ++ visit.kept
-  pub time : time ≡ now
-  pub parts : asked settings (head_of request) now ≡ Ok parts
+  pub front : List ℕ
+  pub head : Head
+  pub heard : IsHead front head
+  pub cut : octets ≡ front ++ visit.kept
+  pub read_at : time ≡ now
+  pub asks : asked settings head now ≡ Ok parts
   pub fits : MayBeHanded parts time
-  pub phase : visit.phase ≡ Submitting ((head_of request).close || (head_of request).body)
+  pub phase : visit.phase ≡ Submitting (head.close || head.body)
 
 -- Something was cut off the front of the octets, and is answered without the store.
 pub record Owes (settings : Settings) (ended : Bool) (now : ℕ) (octets : List ℕ) (visit : Visit) (answer : Answer) (close : Bool) : Type 0 where
@@ -98,8 +100,8 @@ pub record Owes (settings : Settings) (ended : Bool) (now : ℕ) (octets : List 
   pub cut : octets ≡ exchange.octets ++ visit.kept
   pub timed : AreAmong exchange.times (now ∷ [])
   pub no_deed : exchange.deeds ≡ []
-  pub answer : exchange.answer ≡ answer
-  pub close : exchange.close ≡ close
+  pub answers : exchange.answer ≡ answer
+  pub closes : exchange.close ≡ close
 
 -- what is wished once octets are looked at
 abbrev pub LooksAt : Settings → ℕ → List ℕ → Visit → VisitWish → Type 0

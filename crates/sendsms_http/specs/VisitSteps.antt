@@ -26,7 +26,7 @@ IsSubmitting visit = IsSubmittingIn visit.phase
 
 -- What each step leaves: as many octets as were given by then, the phase of its wish, and what holds in that.
 pub record Goes (taken : ℕ) (old : Visit) (wish : VisitWish) (new : Visit) : Type 0 where
-  pub taken : new.taken ≡ taken
+  pub many : new.taken ≡ taken
   pub budget : new.budget ≡ old.budget
   pub phase : IsPhaseOf wish new.phase
   pub holds : IsPhase new.phase new

@@ -1,6 +1,6 @@
 //! A visit answers, or ends.
 
-ghost use Rattle.std.specs.Prelude.{◌≡◌, ◌<◌, ◌≤◌, ◌+◌, ◌^◌, true};
+ghost use Rattle.std.specs.Prelude.{◌≡◌, ◌<◌, ◌≤◌, ◌^◌, ℕ};
 ghost use Rattle.sendsms_http.specs.Ranges.{AreSettings};
 ghost use Rattle.http_text.specs.Head.{NeedsMore};
 ghost use Rattle.sendsms_http.specs.Visit as spec;

@@ -1,6 +1,6 @@
 //! A visit looks at what it keeps.
 
-ghost use Rattle.std.specs.Prelude.{◌≡◌, ◌≢◌, ◌<◌, ◌≤◌, ◌+◌, ◌^◌, ◌++◌, [], length, take};
+ghost use Rattle.std.specs.Prelude.{◌≡◌, ◌<◌, ◌≤◌, ◌+◌, ◌^◌, ◌++◌, ℕ, [], drop, length, take, true};
 ghost use Rattle.sendsms_http.specs.Ranges.{AreSettings};
 ghost use Rattle.http_text.specs.Head.{IsWhole, NeedsMore, looked_at};
 ghost use Rattle.http_text.specs.Place.{EndsAt};
@@ -62,6 +62,9 @@ impl Visit {
         ensures looks { spec.LooksAt settings.now now self.old.kept self.new result }
         ensures goes { steps.Goes self.old.taken self.old result self.new }
     {
+        if self.kept.is_empty() {
+            return self.listen(Place::Unknown);
+        }
         match read_more(self.alloc, self.kept.as_slice(), before, place) {
             Ok((HeadRead::Whole { head, len }, _)) => self.ask(settings, &head, len, now),
             Ok((HeadRead::NeedMore, place)) => self.listen(place),
