@@ -1,6 +1,9 @@
 #!/bin/sh
-# Runs `boxes door` behind a listener that hands it one connection at a time, and asks it what a requester would, with curl.
+# Runs `boxes door` behind a listener that hands it one connection at a time, and asks it what a requester would, with curl: over
+# HTTP/1.0, and over HTTP/1.1 with connections that are kept.
 # It is outside the gate: it needs curl and either socat or systemd-socket-activate, and skips with a word where one is missing.
+#
+#   interop/curl.sh             PORT names the port to listen on, 13613 where it isn't set
 here=$(CDPATH= cd -- "$(dirname -- "$0")/.." && pwd) || exit 1
 port=${PORT:-13613}
 command -v curl > /dev/null 2>&1 || { echo "skipped: curl isn't installed (Debian's package curl)"; exit 0; }
@@ -21,12 +24,15 @@ listener=$!
 sleep 1
 failed=0
 
-# Asks with these words of curl, and compares the status and the body with what is wanted.
+# Asks with these words of curl, and compares with what is wanted: for each request, one behind the other with `; ` between them, the body,
+# the status, what the answer says of the connection, and how many connections curl made for it.
 asks() {
     what=$1
     wanted=$2
     shift 2
-    said=$(curl -s -w ' %{http_code}' "$@")
+    # (a run that is still ending has the store)
+    sleep 0.3
+    said=$(curl -s -w ' %{http_code} %header{connection} %{num_connects}\n' "$@" | sed -n 'H; ${ x; s/\n//; s/\n/; /g; p; }')
     if [ "$said" = "$wanted" ]; then
         echo "ok: $what: $said"
     else
@@ -36,21 +42,42 @@ asks() {
 }
 
 url="http://127.0.0.1:$port/cgi-bin/sendsms"
+other="http://127.0.0.1:$port/cgi-bin/other"
 form='username=tester&password=foobar&from=123&to=0123456'
-asks "a message" '3: Queued for later delivery 202' --http1.0 "$url?$form&text=hello"
-asks "a text that curl writes as a form" '3: Queued for later delivery 202' --http1.0 -G "$url" \
-    -d username=tester -d password=foobar -d from=123 -d to=0123456 --data-urlencode 'text=hello world'
-asks "a wrong password" 'Authorization failed for sendsms 403' --http1.0 "$url?username=tester&password=wrong&from=123&to=0123456&text=hello"
-asks "a form with a body" 'Bad request: not built 400' --http1.0 "$url" -d "$form&text=hello"
-asks "another path" 'Bad request: not built 400' --http1.0 "http://127.0.0.1:$port/cgi-bin/other?$form&text=hello"
-asks "HTTP/1.1, which isn't served yet" 'Bad request: not built 400' "$url?$form&text=hello"
+wrong='username=tester&password=wrong&from=123&to=0123456&text=hello'
+queued='3: Queued for later delivery 202'
+stored=17 # a header of 16 octets and a closed gate
 
-stored=$(wc -c < gate.store.a)
-# (a header of 16 octets and a closed gate, and 71 octets and 77 for the messages of 5 and of 11 characters)
-if [ "$stored" = 165 ]; then
-    echo "ok: the two messages that were answered 202 are stored, and no other"
+# ---- HTTP/1.0: a connection a request
+asks "a message" "$queued close 1" --http1.0 "$url?$form&text=hello"
+stored=$((stored + 71))
+asks "a text that curl writes as a form" "$queued close 1" --http1.0 -G "$url" \
+    -d username=tester -d password=foobar -d from=123 -d to=0123456 --data-urlencode 'text=hello world'
+stored=$((stored + 77))
+asks "a wrong password" 'Authorization failed for sendsms 403 close 1' --http1.0 "$url?$wrong"
+asks "another path" 'Unknown path. 404 close 1' --http1.0 "$other?$form&text=hello"
+
+# ---- HTTP/1.1: connections are kept
+asks "two messages in one connection" "$queued keep-alive 1; $queued keep-alive 0" "$url?$form&text=hello" "$url?$form&text=world"
+stored=$((stored + 2 * 71))
+asks "refusals between messages" \
+    "$queued keep-alive 1; Authorization failed for sendsms 403 keep-alive 0; Unknown path. 404 keep-alive 0; $queued keep-alive 0" \
+    "$url?$form&text=hello" "$url?$wrong" "$other" "$url?$form&text=world"
+stored=$((stored + 2 * 71))
+asks "a request that closes" "$queued close 1" -H 'Connection: close' "$url?$form&text=hello"
+stored=$((stored + 71))
+asks "escapes in a name and a text" "$queued keep-alive 1" "$url?user%6eame=%74ester&password=foobar&from=123&to=0123456&text=%68ello%20world"
+stored=$((stored + 77))
+asks "a form in the body, which curl posts" 'Bad request: method 400 close 1' "$url" -d "$form&text=hello"
+asks "the same as a GET" 'Bad request: body 400 close 1' -X GET "$url" -d "$form&text=hello"
+asks "a HEAD" ' 400 keep-alive 1' -I -o /dev/null "$url?$form&text=hello"
+
+sleep 0.3
+size=$(wc -c < gate.store.a)
+if [ "$size" = "$stored" ]; then
+    echo "ok: the messages that were answered 202 are stored, and no other ($size octets)"
 else
-    echo "FAILED: gate.store.a has $stored octets, wanted: 165"
+    echo "FAILED: gate.store.a has $size octets, wanted: $stored"
     failed=1
 fi
 exit $failed

@@ -1,6 +1,7 @@
 //! Cases in which each call of a kind fails in turn, until a run has none to fail.
 
 use crate::case::Case;
+use crate::house::{Failing, NONE_FAILS};
 use crate::outcome::{put_outcome, put_status, put_told};
 use crate::run::run_once;
 use kn_base::{Memory, Octets};
@@ -12,7 +13,7 @@ const MOST_CALLS: u64 = 1_000;
 
 /// The line of a run in which a call of the disk fails, and whether one did.
 fn disk_line(alloc: Global, case: Case, call: u64) -> Result<(Octets, bool), Memory> {
-    let outcome = run_once(alloc, case, None, Some(call))?;
+    let outcome = run_once(alloc, case, NONE_FAILS, Some(call))?;
     let mut line = Octets::new(alloc);
     put_outcome(&mut line, &outcome)?;
     Ok((line, outcome.disk_failed))
@@ -53,7 +54,11 @@ fn visitor_line(
     whole: &[u8],
     before: &mut usize,
 ) -> Result<(Octets, bool), Memory> {
-    let outcome = run_once(alloc, case, Some(call), None)?;
+    let failing = Failing {
+        visitor: Some(call),
+        output: None,
+    };
+    let outcome = run_once(alloc, case, failing, None)?;
     let mut line = Octets::new(alloc);
     put_status(&mut line, &outcome)?;
     line.extend_from_slice(front_of(outcome.said.as_slice(), *before, whole))?;
@@ -65,11 +70,46 @@ fn visitor_line(
 
 /// Runs a case once for each call of its visitor, which fails. Lines that are the same one after the other are one.
 pub fn run_each_visitor_call(alloc: Global, case: Case, report: &mut Octets) -> Result<(), Memory> {
-    let whole = run_once(alloc, case, None, None)?.said;
+    let whole = run_once(alloc, case, NONE_FAILS, None)?.said;
     let mut before = 0;
     let mut last = Octets::new(alloc);
     for call in 0..MOST_CALLS {
         let (line, has_failed) = visitor_line(alloc, case, call, whole.as_slice(), &mut before)?;
+        put_new(report, &mut last, line)?;
+        if !has_failed {
+            break;
+        }
+    }
+    Ok(())
+}
+
+/// The line of a run in which a call of standard output fails, where what was written is compared with what is written in whole, and
+/// whether one did.
+fn output_line(
+    alloc: Global,
+    case: Case,
+    call: u64,
+    whole: &[u8],
+) -> Result<(Octets, bool), Memory> {
+    let failing = Failing {
+        visitor: None,
+        output: Some(call),
+    };
+    let outcome = run_once(alloc, case, failing, None)?;
+    let mut line = Octets::new(alloc);
+    put_status(&mut line, &outcome)?;
+    line.extend_from_slice(front_of(outcome.out.as_slice(), 0, whole))?;
+    put_told(&mut line, &outcome)?;
+    line.extend_from_slice(outcome.areas.as_slice())?;
+    Ok((line, outcome.output_failed))
+}
+
+/// Runs a case once for each call of standard output, which fails. Lines that are the same one after the other are one.
+pub fn run_each_output_call(alloc: Global, case: Case, report: &mut Octets) -> Result<(), Memory> {
+    let whole = run_once(alloc, case, NONE_FAILS, None)?.out;
+    let mut last = Octets::new(alloc);
+    for call in 0..MOST_CALLS {
+        let (line, has_failed) = output_line(alloc, case, call, whole.as_slice())?;
         put_new(report, &mut last, line)?;
         if !has_failed {
             break;

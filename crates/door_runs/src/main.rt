@@ -1,5 +1,5 @@
-//! Whole runs of `door` over a house in memory, as its users meet it: cases are lines of standard input, and what each came
-//! to is a line of standard output.
+//! Whole runs of `door` and `show` over a house in memory, as their users meet them: cases are lines of standard input, and what each
+//! came to is a line of standard output.
 //!
 //! A case changes the worked request: the words `door gate.conf`, that file, a request that is accepted, an empty disk with
 //! the birth 1, and a clock that reads 1000. It is made of items between `|`; `case.rt` has them all.
@@ -18,7 +18,7 @@ use run::run_case;
 use std::alloc::Global;
 use std::process::ExitCode;
 
-/// The cases of `door`.
+/// The cases of the commands.
 struct DoorCases;
 
 impl Cases for DoorCases {

@@ -13,6 +13,10 @@ pub struct Outcome {
     pub said: Octets,
     /// Whether a call of the visitor failed.
     pub visitor_failed: bool,
+    /// What was written to standard output, which isn't the visitor.
+    pub out: Octets,
+    /// Whether a call of that failed.
+    pub output_failed: bool,
     /// What was written to standard error.
     pub told: Octets,
     /// The disk's areas, as they are reported.
@@ -28,6 +32,8 @@ impl Outcome {
             status: 0,
             said: Octets::new(alloc),
             visitor_failed: false,
+            out: Octets::new(alloc),
+            output_failed: false,
             told: Octets::new(alloc),
             areas: Octets::new(alloc),
             disk_failed: false,
@@ -59,8 +65,20 @@ pub fn put_said<P: Peer>(into: &mut Octets, peer: P) -> Result<bool, Memory> {
 /// Puts the status, and what was said and told.
 pub fn put_outcome(into: &mut Octets, outcome: &Outcome) -> Result<(), Memory> {
     put_status(into, outcome)?;
-    put_part(into, b" | said ", outcome.said.as_slice())?;
+    put_spoken(into, outcome)?;
+    put_part(into, b" | out ", outcome.out.as_slice())?;
     put_told(into, outcome)
+}
+
+/// More octets that were said are counted, and not written.
+const MOST_SAID: usize = 1_000;
+
+/// Puts what was said to the visitor.
+fn put_spoken(into: &mut Octets, outcome: &Outcome) -> Result<(), Memory> {
+    if outcome.said.len() <= MOST_SAID {
+        return put_part(into, b" | said ", outcome.said.as_slice());
+    }
+    put_named(into, b" | said so many octets: ", outcome.said.len() as u64)
 }
 
 /// Puts the status.

@@ -1,12 +1,12 @@
 //! Running a case: the runs that it stands for.
 
 use crate::case::{Case, Runs};
-use crate::failing::{run_each_disk_call, run_each_visitor_call};
-use crate::house::{disk_of, house_of};
+use crate::failing::{run_each_disk_call, run_each_output_call, run_each_visitor_call};
+use crate::house::{Failing, NONE_FAILS, disk_of, house_of};
 use crate::outcome::{Outcome, put_disk, put_outcome, put_said};
-use boxes_main::{House, MemHouse, door};
+use boxes_main::{House, MemHouse, door, show};
 use kn_base::{Memory, Octets, Peer};
-use line_cases::words_of;
+use line_cases::{cut_at, words_of};
 use std::alloc::Global;
 use store_disk::MemDisk;
 
@@ -19,30 +19,38 @@ fn octet_words(alloc: Global, text: &[u8]) -> Result<Vec<Octets>, Memory> {
     Ok(words)
 }
 
-/// Runs the command, and gives its status and its disk. It knows no house, and so nothing of what else is left.
-fn end_of<H: House>(alloc: Global, words: &[Octets], house: &mut H) -> (u8, Option<H::D>) {
+/// Runs `door`, and gives its status and its disk. It knows no house, and so nothing of what else is left.
+fn end_of_door<H: House>(alloc: Global, words: &[Octets], house: &mut H) -> (u8, Option<H::D>) {
     let ended = door(alloc, words, house);
     (ended.status, ended.disk)
 }
 
-/// Puts what was said to the visitor and to the sink for errors into the outcome.
-fn put_talks<V: Peer, E: Peer + Drop>(
+/// Runs `show`, and gives its status and its disk.
+fn end_of_show<H: House>(alloc: Global, words: &[Octets], house: &mut H) -> (u8, Option<H::D>) {
+    let ended = show(alloc, words, house);
+    (ended.status, ended.disk)
+}
+
+/// Puts what was said to standard output and to the sink for errors into the outcome.
+fn put_sinks<O: Peer + Drop, E: Peer + Drop>(
     outcome: &mut Outcome,
-    visitor: V,
+    output: O,
     errors: E,
 ) -> Result<(), Memory> {
-    outcome.visitor_failed = put_said(&mut outcome.said, visitor)?;
+    outcome.output_failed = put_said(&mut outcome.out, output)?;
     put_said(&mut outcome.told, errors)?;
     Ok(())
 }
 
 /// Puts what became of a house into the outcome.
 fn put_house(outcome: &mut Outcome, house: MemHouse) -> Result<(), Memory> {
-    let (visitor, errors) = house.into_peers();
-    put_talks(outcome, visitor, errors)
+    let (visitor, output, errors) = house.into_peers();
+    put_sinks(outcome, output, errors)?;
+    outcome.visitor_failed = put_said(&mut outcome.said, visitor)?;
+    Ok(())
 }
 
-/// Runs the command over a house.
+/// Runs the command over a house: `show` where that is its word, else `door`.
 fn run_in(
     alloc: Global,
     case: Case,
@@ -51,7 +59,12 @@ fn run_in(
 ) -> Result<Option<MemDisk>, Memory> {
     let mut house = house;
     let words = octet_words(alloc, case.words)?;
-    let (status, disk) = end_of(alloc, &words, &mut house);
+    let (command, _) = cut_at(case.words, b' ');
+    let (status, disk) = if command == b"show".as_slice() {
+        end_of_show(alloc, &words, &mut house)
+    } else {
+        end_of_door(alloc, &words, &mut house)
+    };
     outcome.status = status;
     put_house(outcome, house)?;
     Ok(disk)
@@ -68,11 +81,11 @@ fn put_left(outcome: &mut Outcome, disk: &Option<MemDisk>, shown: bool) -> Resul
     }
 }
 
-/// Runs the command over a disk, and gives what is left of it. One call of the visitor may fail.
+/// Runs the command over a disk, and gives what is left of it.
 fn run(
     alloc: Global,
     case: Case,
-    failing: Option<u64>,
+    failing: Failing,
     disk: MemDisk,
     outcome: &mut Outcome,
 ) -> Result<Option<MemDisk>, Memory> {
@@ -82,16 +95,16 @@ fn run(
     Ok(left)
 }
 
-/// Runs the command. One call of the visitor and one of the disk may fail.
+/// Runs the command. Calls of the visitor, of standard output and of the disk may fail.
 pub fn run_once(
     alloc: Global,
     case: Case,
-    of_visitor: Option<u64>,
+    failing: Failing,
     of_disk: Option<u64>,
 ) -> Result<Outcome, Memory> {
     let mut outcome = Outcome::new(alloc);
     let disk = disk_of(alloc, case, of_disk)?;
-    run(alloc, case, of_visitor, disk, &mut outcome)?;
+    run(alloc, case, failing, disk, &mut outcome)?;
     Ok(outcome)
 }
 
@@ -105,9 +118,9 @@ fn put_run(report: &mut Octets, outcome: &Outcome) -> Result<(), Memory> {
 /// Runs a case and reports what it came to.
 pub fn run_case(alloc: Global, case: Case, report: &mut Octets) -> Result<(), Memory> {
     match case.runs {
-        Runs::Once => put_run(report, &run_once(alloc, case, None, None)?),
-        Runs::Again => run_again(alloc, case, report),
+        Runs::Plain => run_all(alloc, case, report),
         Runs::EachVisitorCall => run_each_visitor_call(alloc, case, report),
+        Runs::EachOutputCall => run_each_output_call(alloc, case, report),
         Runs::EachDiskCall => run_each_disk_call(alloc, case, report),
     }
 }
@@ -120,19 +133,39 @@ fn run_over(
     report: &mut Octets,
 ) -> Result<Option<MemDisk>, Memory> {
     let mut outcome = Outcome::new(alloc);
-    let left = run(alloc, case, None, disk, &mut outcome)?;
+    let left = run(alloc, case, NONE_FAILS, disk, &mut outcome)?;
     put_run(report, &outcome)?;
     Ok(left)
 }
 
-/// Runs a case, and once more over the disk that was left.
-fn run_again(alloc: Global, case: Case, report: &mut Octets) -> Result<(), Memory> {
+/// Runs a case as often as it says, each time over the disk that was left.
+fn run_times(
+    alloc: Global,
+    case: Case,
+    disk: MemDisk,
+    report: &mut Octets,
+) -> Result<Option<MemDisk>, Memory> {
+    let mut disk = disk;
+    for _ in 0..case.times {
+        match run_over(alloc, case, disk, report)? {
+            Some(left) => disk = left,
+            None => return Ok(None),
+        }
+    }
+    Ok(Some(disk))
+}
+
+/// Runs a case as often as it says, and then `show`, where it says that.
+fn run_all(alloc: Global, case: Case, report: &mut Octets) -> Result<(), Memory> {
     let disk = disk_of(alloc, case, None)?;
-    match run_over(alloc, case, disk, report)? {
-        Some(disk) => {
+    let left = run_times(alloc, case, disk, report)?;
+    match left {
+        Some(disk) if case.then_show => {
+            let mut case = case;
+            case.words = b"show gate.conf";
             run_over(alloc, case, disk, report)?;
             Ok(())
         }
-        None => Ok(()),
+        _ => Ok(()),
     }
 }

@@ -3,11 +3,15 @@
 #![tactic(auto)]
 
 mod alphabet;
+mod answer;
+mod conf;
 mod head;
 mod record;
 mod request;
 mod session;
 mod split;
+mod store;
+mod talk;
 
 use kn_base::{Memory, Octets};
 use line_cases::{Cases, cut_at, run_lines};
@@ -58,7 +62,7 @@ fn put_http(alloc: Global, kind: &[u8], text: &[u8], report: &mut Octets) -> Res
     } else if kind == b"message".as_slice() {
         request::put_message(alloc, text, report)
     } else if kind == b"answer".as_slice() {
-        session::put_answer(alloc, text, report)
+        answer::put_answer(alloc, text, report)
     } else {
         session::put_session(alloc, text, report)
     }
