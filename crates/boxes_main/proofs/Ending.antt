@@ -57,7 +57,7 @@ module _
 module _
     {V S O E D C : Type 0} (course : V → Course) (files : S → Option (List (List ℕ × List ℕ))) (shelf_faults : S → ℕ)
     (tells : Bool) (contents : D → Areas) (faults : D → ℕ) (readings_of : C → Option (List ℕ))
-    (name : Option (List ℕ)) (old mid new : Rooms V S O E) (before between after : Stock) where
+    (name : Option (List ℕ)) (old new : Rooms V S O E) (before after : Stock) where
   -- a usage is told exactly where the words name no configuration for the command
   pub usage_by : (workers : List (Worker C)) (disk : Option D) (failure : Option Failure)
       → ComesTo course files shelf_faults tells contents faults readings_of name old new before workers disk failure → (failure ≡ Some Usage) ↔ (name ≡ None)
@@ -69,6 +69,18 @@ module _
   usage_by workers disk (Some NoStoreFile) comes = named files shelf_faults tells contents faults old.shelf before disk name new.shelf NoStoreFile comes.cause
   usage_by workers disk (Some (Store fault)) comes = named files shelf_faults tells contents faults old.shelf before disk name new.shelf (Store fault) comes.cause
   usage_by workers disk (Some (Output fault)) comes = absurd comes
+
+  -- what is said on standard error changes nothing else
+  pub comes_to_told : (workers : List (Worker C)) (disk : Option D) (failure : Option Failure) (errors : E)
+      → ComesTo course files shelf_faults tells contents faults readings_of name old new before workers disk failure
+      → ComesTo course files shelf_faults tells contents faults readings_of name old (record new { errors = errors }) before workers disk failure
+  comes_to_told workers disk None errors comes = record { settings = comes.settings; configured = comes.configured; served = comes.served }
+  comes_to_told workers disk (Some (Session fault)) errors comes = record { settings = comes.settings; configured = comes.configured; served = comes.served }
+  comes_to_told workers disk (Some Usage) errors comes = record { unserved = comes.unserved; cause = comes.cause }
+  comes_to_told workers disk (Some (Configuration fault)) errors comes = record { unserved = comes.unserved; cause = comes.cause }
+  comes_to_told workers disk (Some NoStoreFile) errors comes = record { unserved = comes.unserved; cause = comes.cause }
+  comes_to_told workers disk (Some (Store fault)) errors comes = record { unserved = comes.unserved; cause = comes.cause }
+  comes_to_told workers disk (Some (Output fault)) errors comes = comes
 
   -- what the command comes to where no store stood open
   comes_to_none : (workers : List (Worker C)) (disk : Option D) (failure : Failure) → new.visitor ≡ old.visitor → workers ≡ []
@@ -126,9 +138,9 @@ module _
       }
 
 module _
-    {V S O E D C : Type 0} (course : O → Course) (files : S → Option (List (List ℕ × List ℕ))) (shelf_faults : S → ℕ)
+    {V S O E D : Type 0} (course : O → Course) (files : S → Option (List (List ℕ × List ℕ))) (shelf_faults : S → ℕ)
     (tells : Bool) (contents : D → Areas) (faults : D → ℕ)
-    (name : Option (List ℕ)) (old mid new : Rooms V S O E) (before between after : Stock) where
+    (name : Option (List ℕ)) (old new : Rooms V S O E) (before after : Stock) where
   -- the same of `show`
   pub show_usage_by : (disk : Option D) (failure : Option Failure)
       → ComesToShow course files shelf_faults tells contents faults name old new before disk failure → (failure ≡ Some Usage) ↔ (name ≡ None)
@@ -141,6 +153,19 @@ module _
   show_usage_by disk (Some (Store fault)) comes = named files shelf_faults tells contents faults old.shelf before disk name new.shelf (Store fault) comes.cause
   show_usage_by disk (Some (Session fault)) comes = absurd comes
 
+  -- what is said on standard error changes nothing else
+  pub shows_told : (disk : Option D) (failure : Option Failure) (errors : E)
+      → ComesToShow course files shelf_faults tells contents faults name old new before disk failure
+      → ComesToShow course files shelf_faults tells contents faults name old (record new { errors = errors }) before disk failure
+  shows_told disk None errors comes = record { settings = comes.settings; configured = comes.configured; shown = comes.shown }
+  shows_told disk (Some (Output fault)) errors comes = record { settings = comes.settings; configured = comes.configured; shown = comes.shown }
+  shows_told disk (Some Usage) errors comes = record { unprinted = comes.unprinted; cause = comes.cause }
+  shows_told disk (Some (Configuration fault)) errors comes = record { unprinted = comes.unprinted; cause = comes.cause }
+  shows_told disk (Some NoStoreFile) errors comes = record { unprinted = comes.unprinted; cause = comes.cause }
+  shows_told disk (Some (Store fault)) errors comes = record { unprinted = comes.unprinted; cause = comes.cause }
+  shows_told disk (Some (Session fault)) errors comes = comes
+
+  -- where no store stood open, nothing was printed
   shows_none : (disk : Option D) (failure : Failure) → new.output ≡ old.output
       → IsNotOpen files shelf_faults tells contents faults name old.shelf new.shelf before disk failure
       → ComesToShow course files shelf_faults tells contents faults name old new before disk (Some failure)
@@ -152,7 +177,7 @@ module _
   shows_none disk (Output fault) same cause = absurd cause
 
   -- no store stood open
-  pub show_ends_closed : (status : ℕ) (failure : Option Failure) (disk : Option D) (workers : List (Worker C)) (why : Failure)
+  pub show_ends_closed : {C : Type 0} (status : ℕ) (failure : Option Failure) (disk : Option D) (workers : List (Worker C)) (why : Failure)
       → status ≡ status_of failure → failure ≡ Some why → workers ≡ []
       → OpensNothing files shelf_faults tells contents faults name old new before after why disk
       → EndsShow course files shelf_faults tells contents faults name old new before after status failure disk workers
@@ -166,9 +191,10 @@ module _
   }
 
 module _
-    {V S O E D C : Type 0} (course : O → Course) (files : S → Option (List (List ℕ × List ℕ))) (shelf_faults : S → ℕ)
+    {V S O E D : Type 0} (course : O → Course) (files : S → Option (List (List ℕ × List ℕ))) (shelf_faults : S → ℕ)
     (tells : Bool) (contents : D → Areas) (faults : D → ℕ)
     (name : Option (List ℕ)) (old mid new : Rooms V S O E) (before between after : Stock) (settings : Settings) (it : store.Store D) where
+  -- what the command comes to where counts were printed
   shows_by : (disk : Option D) (fault : Option OutputFault)
       → IsConfigured files shelf_faults name old.shelf new.shelf settings
       → IsShown tells contents faults (before.disks settings.core.store_file) before.word (course old.output) (course new.output) disk fault
@@ -177,7 +203,7 @@ module _
   shows_by disk (Some fault) configured shown = record { settings = settings; configured = configured; shown = shown }
 
   -- the counts of the store that was opened were printed
-  pub show_ends : (status : ℕ) (failure : Option Failure) (disk : Option D) (workers : List (Worker C))
+  pub show_ends : {C : Type 0} (status : ℕ) (failure : Option Failure) (disk : Option D) (workers : List (Worker C))
       → Opens files shelf_faults tells contents faults name old mid before between settings it
       → ShowsOne course tells contents faults settings.rules.outgoing mid new between after it status failure disk workers
       → EndsShow course files shelf_faults tells contents faults name old new before after status failure disk workers

@@ -1,5 +1,5 @@
 -- Giving one text behind another.
-use Rattle.std.proofs.Common.{◌≡◌, ℕ, ◌+◌, ◌≤◌, List, ◌++◌, length, take, ap, sym, ◌∙◌, length-append, arith, subst}
+use Rattle.std.proofs.Common.{◌≡◌, ℕ, ◌+◌, ◌≤◌, List, [], ◌∷◌, ◌++◌, length, take, ap, sym, ◌∙◌, append_assoc, length-append, arith, subst}
 use Rattle.std.specs.Prelude.{Result, Ok, Err}
 use Rattle.std.proofs.lemmas.List.{take-append-le}
 use Rattle.std.proofs.Math.Seq.{take-append-add}
@@ -55,6 +55,32 @@ pub GivesText-behind : {A : Type 0} (xs ys : List ℕ) (outcome : Result A Cut) 
 GivesText-behind xs ys (Ok all) a b c s g = SaysAll-append xs ys a b c s g
 GivesText-behind xs ys (Err cut) a b c s g = (length xs + g.0, SaysFront-behind xs ys g.0 a b c s g.1)
 
+-- a text in four parts, by two and two
+abbrev rest_of : (between last : List ℕ) → List ℕ
+rest_of between last = (between ++ last) ++ 10 ∷ []
+
+two_and_two : (front first between last : List ℕ) → (front ++ first) ++ rest_of between last ≡ front ++ first ++ between ++ last ++ 10 ∷ []
+two_and_two front first between last = simp append_assoc
+
 -- a cut in the first of two texts is one in both
 pub GivesText-longer : (xs ys : List ℕ) (a c : Course) → (gone : ℕ) × SaysFront xs gone a c → (gone : ℕ) × SaysFront (xs ++ ys) gone a c
 GivesText-longer xs ys a c s = (s.0, SaysFront-longer xs ys s.0 a c s.1)
+
+module _ (front first between last : List ℕ) (a b c d : Course) where
+  -- a cut in the first two of four parts
+  pub parts-cut : (gone : ℕ) × SaysFront (front ++ first) gone a b → (gone : ℕ) × SaysFront (front ++ first ++ between ++ last ++ 10 ∷ []) gone a b
+  parts-cut s = subst (λ x. (gone : ℕ) × SaysFront x gone a b) (two_and_two front first between last) (GivesText-longer (front ++ first) (rest_of between last) a b s)
+
+  -- a cut in the other two
+  pub parts-cut_later : (cut : Cut) → SaysAll (front ++ first) a b → (gone : ℕ) × SaysFront (between ++ last) gone b c
+      → (gone : ℕ) × SaysFront (front ++ first ++ between ++ last ++ 10 ∷ []) gone a c
+  parts-cut_later cut s t =
+      subst (λ x. (gone : ℕ) × SaysFront x gone a c) (two_and_two front first between last)
+      (GivesText-behind {A = Unit {0}} (front ++ first) (rest_of between last) (Err cut) a b c s (GivesText-longer (between ++ last) (10 ∷ []) b c t))
+
+  -- all four parts, and what came of LF
+  pub parts-end : {A : Type 0} (outcome : Result A Cut) → SaysAll (front ++ first) a b → SaysAll (between ++ last) b c → GivesText (10 ∷ []) outcome c d
+      → GivesText (front ++ first ++ between ++ last ++ 10 ∷ []) outcome a d
+  parts-end outcome s t g =
+      subst (λ x. GivesText x outcome a d) (two_and_two front first between last)
+      (GivesText-behind (front ++ first) (rest_of between last) outcome a b d s (GivesText-behind (between ++ last) (10 ∷ []) outcome b c d t g))

@@ -11,8 +11,13 @@ pub behind : {after before : List ℕ} (octets front : List ℕ) → after ≡ b
 behind octets front e f = e ∙ ap (λ x. x ++ octets) f
 
 -- a line behind others, from its parts
-pub row-parts : (front name : List ℕ) (count : ℕ) → (((front ++ name) ++ codes " ") ++ decimal count) ++ codes "\n" ≡ front ++ row name count
+row-parts : (front name : List ℕ) (count : ℕ) → (((front ++ name) ++ codes " ") ++ decimal count) ++ codes "\n" ≡ front ++ row name count
 row-parts front name count = simp append_assoc
+
+pub row-behind : (front name : List ℕ) (count : ℕ) (a b c d digits : List ℕ) → a ≡ front ++ name → b ≡ a ++ codes " " → c ≡ b ++ digits → digits ≡ decimal count
+    → d ≡ c ++ codes "\n" → d ≡ front ++ row name count
+row-behind front name count a b c d digits named spaced counted same ended =
+    ended ∙ ap (λ x. x ++ codes "\n") (counted ∙ ap (λ x. b ++ x) same ∙ ap (λ x. x ++ decimal count) (spaced ∙ ap (λ x. x ++ codes " ") named)) ∙ row-parts front name count
 
 -- what failed was no want of memory, so it was a fault
 fault_of : (starved now faults faults_now : ℕ) → Rose faults faults_now ⊎ Rose starved now → now ≤ starved → starved < last_count → Rose faults faults_now

@@ -1,4 +1,4 @@
--- A session that was served over a store that was opened.
+-- What was done over a store that was opened: a session was served, or its counts were printed.
 use Rattle.std.proofs.Common.{◌≡◌, ℕ, Bool, true, false, List, [], ◌∷◌, ◌++◌, Option, Some, None, refl, ap, sym, ◌∙◌, subst}
 use Rattle.std.specs.Prelude.{IfSome, option_map}
 use Rattle.std.specs.Bool.{OnTrue}
@@ -6,6 +6,7 @@ use Rattle.kn_base.specs.Count.{Rose}
 use Rattle.kn_base.specs.Course.{Course}
 use Rattle.config_groups.specs.declared.settings.Settings.{Settings}
 use Rattle.gate_model.specs.Acceptor.{Deed}
+use Rattle.gate_model.specs.declared.totals.Totals.{Totals}
 use Rattle.sendsms_http.specs.Session.{AddsAll, Talks}
 use Rattle.sendsms_http.specs.declared.http_end.HttpEnd.{HttpEnd}
 use Rattle.store_journal.specs.Area.{stands}
@@ -14,6 +15,7 @@ use Rattle.sms_record.specs.declared.entry.accept.Accept.{Accept}
 use Rattle.gate_store.specs.Accepts.{StandsFor}
 use Rattle.gate_store.specs.Deeds.{Leads, done_of}
 use Rattle.gate_store.specs.Store.{IsStore, IsOpened, disk_in, is_store_broken}
+use Rattle.gate_store.specs.Totals.{totals_of}
 use Rattle.gate_store.specs.declared.store.Store.{Store}
 use Rattle.gate_store.proofs.Commits.{reasoned, spared, unfailed, gained, broke}
 use Rattle.gate_store.proofs.Opening.{told_weaker}
@@ -22,11 +24,14 @@ use Rattle.boxes_main.specs.DoorSteps.{ServesOne}
 use Rattle.boxes_main.specs.Failure.{status_of}
 use Rattle.boxes_main.specs.House.{Rooms, Stock, IsToldWord}
 use Rattle.boxes_main.specs.Opening.{IsFound}
+use Rattle.boxes_main.specs.Show.{show_text, Prints}
+use Rattle.boxes_main.specs.ShowSteps.{ShowsOne}
 use Rattle.boxes_main.specs.Worker.{Worker}
 use Rattle.boxes_main.specs.declared.command_end.Role.TheVariants as role_is
 use Rattle.boxes_main.specs.declared.command_end.SessionEnd.TheVariants as ended_as
 use Rattle.boxes_main.specs.declared.failure.Failure.{Failure}
-use Rattle.boxes_main.specs.declared.failure.Failure.TheVariants.{Session}
+use Rattle.boxes_main.specs.declared.failure.Failure.TheVariants.{Session, Output}
+use Rattle.boxes_main.specs.declared.printing.OutputFault.{OutputFault}
 
 -- a clock that wasn't read before was read so and no more
 new_readings : (readings : List ℕ) (old new : Option (List ℕ)) → IfSome old (λ so_far. so_far ≡ []) → AddsAll readings old new → IfSome new (λ all. all ≡ readings)
@@ -75,6 +80,38 @@ module _ {D : Type 0} (tells : Bool) (contents : D → Areas) (faults : D → �
     commits = commits_by store later deeds areas settings.rules.outgoing birth disk is led same stand (is_store_broken later) refl;
     failed = refl;
   }
+
+module _
+    {V S O E D C : Type 0} (course : O → Course) (tells : Bool) (contents : D → Areas) (faults : D → ℕ) (limit : ℕ)
+    (old new : Rooms V S O E) (before after : Stock) (output : O) (store : Store D) (totals : Totals) (disk : D) (workers : List (Worker C)) where
+  -- what a store counts was printed on the house's output
+  pub shows_by : new ≡ record old { output = output } → after ≡ before
+      → (status : ℕ) (failure : Option Failure) (fault : Option OutputFault) → status ≡ status_of failure → failure ≡ option_map Output fault → workers ≡ []
+      → Prints (show_text totals) fault (course old.output) (course output)
+      → ((b : ℕ) (all : List Accept) → IsStore tells contents store b all → totals ≡ totals_of all) → disk ≡ disk_in store
+      → ((b : ℕ) (all : List Accept) → IsStore tells contents store b all → OnTrue tells (StandsFor (stands (contents disk)) b all))
+      → ShowsOne course tells contents faults limit old new before after store status failure (Some disk) workers
+  shows_by lent stays status failure fault right failed alone prints counted same stand =
+      let gave : output ≡ new.output = sym (ap (λ r. r.output) lent) in
+      record {
+        others = lent ∙ ap (λ o. record old { output = o }) gave;
+        stock = stays;
+        right = right;
+        no_worker = alone;
+        fault = fault;
+        failed = failed;
+        shown = λ areas word birth told is. record {
+          birth = is.there;
+          accepts = is.accepts;
+          found = found_by tells contents faults areas word limit birth store told is;
+          prints = subst (λ (t : Totals). Prints (show_text t) fault (course old.output) (course new.output)) (counted is.there is.accepts is.holds)
+              (subst (λ (o : O). Prints (show_text totals) fault (course old.output) (course o)) gave prints);
+          after = disk;
+          handed_back = refl;
+          stood = stand is.there is.accepts is.holds;
+          unfailed = ap faults same ∙ is.unfailed;
+        };
+      }
 
 module _
     {V S O E D C : Type 0} (course : V → Course)

@@ -1,6 +1,6 @@
 //! Why a command ends with another status than 0, and what it says of that.
 
-ghost use Rattle.std.specs.Prelude.{◌≡◌, ◌++◌, ◌∷◌, [], decimal};
+ghost use Rattle.std.specs.Prelude.{◌≡◌, ◌++◌, ◌∷◌, []};
 ghost use Rattle.boxes_main.specs.Failure.{row_of, status_of, Tells};
 ghost use Rattle.boxes_main.specs.Giving.{GivesText};
 ghost use Rattle.boxes_main.specs.Lines.{text_in};
@@ -102,19 +102,18 @@ fn row(failure: &Failure) -> (u8, Line)
     }
 }
 
-/// Gives a line with one or two numbers in it: the words in front, a number, the words between, and what is behind them.
-fn give_numbered<S: Sink>(
+/// Gives a line in four parts.
+fn give_parts<S: Sink>(
     errors: &mut S,
     front: &[u8],
-    number: u64,
+    first: &[u8],
     between: &[u8],
-    behind: &[u8],
+    last: &[u8],
 ) -> Result<(), Cut>
-    ensures { GivesText (front.now ++ decimal number ++ between.now ++ behind.now ++ 10 ∷ []) result (S.course errors.old) (S.course errors.new) }
+    ensures { GivesText (front.now ++ first.now ++ between.now ++ last.now ++ 10 ∷ []) result (S.course errors.old) (S.course errors.new) }
 {
-    let mut digits = Buffer::new();
-    give_two(errors, front, digits.format(number).as_bytes())?;
-    give_two(errors, between, behind)?;
+    give_two(errors, front, first)?;
+    give_two(errors, between, last)?;
     give(errors, b"\n")
 }
 
@@ -125,22 +124,25 @@ fn give_line<S: Sink>(errors: &mut S, line: Line) -> Result<(), Cut>
     match line {
         Line::Text(text) => give(errors, text),
         Line::Place { file, line } => {
-            let mut digits = Buffer::new();
-            give_numbered(
+            let (mut files, mut lines) = (Buffer::new(), Buffer::new());
+            give_parts(
                 errors,
                 b"boxes: configuration: file ",
-                u64::from(file),
+                files.format(file).as_bytes(),
                 b" line ",
-                digits.format(line).as_bytes(),
+                lines.format(line).as_bytes(),
             )
         }
-        Line::Lack { group, variable } => give_numbered(
-            errors,
-            b"boxes: configuration: group ",
-            group,
-            b" lacks ",
-            variable.as_slice(),
-        ),
+        Line::Lack { group, variable } => {
+            let mut groups = Buffer::new();
+            give_parts(
+                errors,
+                b"boxes: configuration: group ",
+                groups.format(group).as_bytes(),
+                b" lacks ",
+                variable.as_slice(),
+            )
+        }
     }
 }
 

@@ -1,6 +1,6 @@
 //! The command `show`: what the store counts, on standard output.
 
-ghost use Rattle.std.specs.Prelude.{◌≡◌, ◌↔◌, ℕ, [], Some, None, codes, map};
+ghost use Rattle.std.specs.Prelude.{◌≡◌, ◌↔◌, ℕ, [], Some, None, codes, map, option_map};
 ghost use Rattle.boxes_main.specs.Command.{configuration_of};
 ghost use Rattle.boxes_main.specs.Failure.{status_of, Tells};
 ghost use Rattle.boxes_main.specs.House.{MakesFor};
@@ -14,10 +14,17 @@ use crate::command_end::{tell_end, unserved};
 use crate::failure::status;
 use crate::opening::{Opened, Unopened, open};
 use crate::printing::print_totals;
-use crate::{Ended, Failure, House};
+use crate::{Ended, Failure, House, OutputFault};
 use gate_store::Store;
 use kn_base::{Items, Octets};
 use std::alloc::Global;
+
+/// What went wrong in printing as what went wrong in the command.
+fn failure_of(fault: Option<OutputFault>) -> Option<Failure>
+    ensures { result ≡ option_map Failure.Output fault }
+{
+    fault.map(Failure::Output)
+}
 
 /// Prints what a store counts, and closes it.
 fn print<H: House>(alloc: Global, house: &mut H, store: Store<H::D>) -> Ended<H>
@@ -26,7 +33,7 @@ fn print<H: House>(alloc: Global, house: &mut H, store: Store<H::D>) -> Ended<H>
         result.status result.failure result.disk (map worker_of result.workers) }
 {
     let fault = print_totals(house.output(), store.totals());
-    let failure = fault.map(Failure::Output);
+    let failure = failure_of(fault);
     Ended {
         status: status(&failure),
         failure,
