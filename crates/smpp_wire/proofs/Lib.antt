@@ -1,0 +1,4 @@
+pub mod TextReading
+pub mod Rooms
+pub mod Parts
+pub mod Texts

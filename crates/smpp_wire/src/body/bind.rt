@@ -1,0 +1,54 @@
+//! The body of bind_transceiver (SMPP 3.4, 4.1.5).
+
+ghost use Rattle.std.specs.Prelude.{◌≡◌, ◌++◌, IfErr, OnOk, OnErr};
+ghost use Rattle.exact_octets.specs.Growth.{Keeps};
+ghost use Rattle.exact_octets.specs.Reading.{Gives, IsOfOctets};
+ghost use Rattle.smpp_wire.specs.Command.{fields_of};
+ghost use Rattle.smpp_wire.specs.Reading.{version_at as version_front, bind_at as bind_front};
+
+use crate::Body;
+use crate::limits::INTERFACE_VERSION;
+use crate::party::two_at;
+use crate::room::Room;
+use crate::text::{Sizes, text_at};
+use exact_octets::{ReadFault, octet_at};
+
+/// The version, and the type and the plan of the addresses.
+#[tactic(auto, unfolding(crate::specs::Reading::version_at))]
+fn version_at(octets: &[u8]) -> Result<((u8, (u8, u8)), &[u8]), ReadFault>
+    ensures gives { Gives (λ x. (x.0, x.1.now)) result (version_front octets.now) }
+    ensures no_memory { IfErr result IsOfOctets }
+{
+    let (version, rest) = octet_at(octets, INTERFACE_VERSION, INTERFACE_VERSION)?;
+    let (others, rest) = two_at(rest)?;
+    Ok(((version, others), rest))
+}
+
+/// A bind whose body fills `left` octets.
+#[tactic(auto, unfolding(crate::specs::Reading::bind_at))]
+pub(crate) fn bind_at(octets: &[u8], left: usize) -> Result<(Body, &[u8]), ReadFault>
+    ensures gives { Gives (λ x. (fields_of x.0, x.1.now)) result (bind_front left octets.now) }
+    ensures no_memory { IfErr result IsOfOctets }
+{
+    let (system_id, rest) = text_at(octets, Sizes::up_to(16), Room::Between(6, 66), left)?;
+    let left = left.saturating_sub(system_id.len() + 1);
+    let (password, rest) = text_at(rest, Sizes::up_to(9), Room::Between(5, 57), left)?;
+    let left = left.saturating_sub(password.len() + 1);
+    let (system_type, rest) = text_at(rest, Sizes::up_to(13), Room::Between(4, 44), left)?;
+    let left = left.saturating_sub(system_type.len() + 1);
+    let ((interface_version, (addr_ton, addr_npi)), rest) = version_at(rest)?;
+    let left = left.saturating_sub(3);
+    let (address_range, rest) = text_at(rest, Sizes::up_to(41), Room::Between(0, 0), left)?;
+    Ok((
+        Body::Bind {
+            system_id,
+            password,
+            system_type,
+            interface_version,
+            addr_ton,
+            addr_npi,
+            address_range,
+        },
+        rest,
+    ))
+}

@@ -1,0 +1,17 @@
+//! Frames of SMPP 3.4.
+#![tactic(auto)]
+
+mod body;
+pub mod command;
+pub mod frame;
+pub mod limits;
+mod party;
+mod pdu;
+mod room;
+mod row;
+mod short_message;
+mod text;
+mod tlv;
+
+pub use frame::Frame;
+pub use pdu::{Body, Pdu};
