@@ -34,6 +34,14 @@ reworded_part {spelled = spelled} part there back = record {
   can = λ a good n rest. back (length (spelled a) + n) (part.can a good n rest);
 }
 
+-- the same part, where what is good is said in other words
+pub regarded_part : {A : Type 0} {Good Good' : A → Type 0} {spelled : A → List ℕ} {read : ℕ → Reader A} {Can Rest : ℕ → Type 0} → IsPart Good spelled read Can Rest
+    → ((a : A) → Good a → Good' a) → ((a : A) → Good' a → Good a) → IsPart Good' spelled read Can Rest
+regarded_part part there back = record {
+  reads = λ left can. reworded_reads (part.reads left can) (λ a l. (there a l.0, l.1, l.2)) (λ a l. (back a l.0, l.1, l.2));
+  can = λ a good n rest. part.can a (back a good) n rest;
+}
+
 module _ {A B : Type 0} (GA : A → Type 0) (sA : A → List ℕ) (rA : ℕ → Reader A) (GB : B → Type 0) (sB : B → List ℕ) (rB : ℕ → Reader B) (Can Mid Rest : ℕ → Type 0)
     (first : IsPart GA sA rA Can Mid) (second : IsPart GB sB rB Mid Rest) (size : A → ℕ) (is : (a : A) → GA a → size a ≡ length (sA a)) where
   abbrev Good : A × B → Type 0
@@ -96,7 +104,7 @@ made_part {GC = GC} {sC = sC} {Can = Can} {Rest = Rest} f part same = record {
 -- ---- a part that fills what is left
 
 abbrev pub IsNone : ℕ → Type 0
-IsNone n = n ≡ 0
+IsNone n = (0 ≤ n) × (n ≤ 0)
 
 abbrev pub Fills : {A : Type 0} → (A → Type 0) → (A → List ℕ) → ℕ → A → Type 0
 Fills Good spelled left a = Good a × (length (spelled a) ≡ left)
@@ -104,21 +112,21 @@ Fills Good spelled left a = Good a × (length (spelled a) ≡ left)
 -- it is read exactly where so many octets can be filled
 pub part_reads : {A : Type 0} {Good : A → Type 0} {spelled : A → List ℕ} {read : ℕ → Reader A} {Can : ℕ → Type 0} → IsPart Good spelled read Can IsNone
     → (left : ℕ) → Can left → IsReader (Fills Good spelled left) spelled (read left)
-part_reads part left can = reworded_reads (part.reads left can) (λ a l. (l.0, omega (arith, l.1, l.2))) (λ a l. (l.0, omega (arith, l.1), omega (arith, l.1)))
+part_reads part left can = reworded_reads (part.reads left can) (λ a l. (l.0, omega (arith, l.1, l.2.1))) (λ a l. (l.0, omega (arith, l.1), (omega arith, omega (arith, l.1))))
 
 -- what is good can be filled
 pub part_can : {A : Type 0} {Good : A → Type 0} {spelled : A → List ℕ} {read : ℕ → Reader A} {Can : ℕ → Type 0} → IsPart Good spelled read Can IsNone
     → (a : A) → Good a → Can (length (spelled a))
 part_can {spelled = spelled} {Can = Can} part a good =
     let all : length (spelled a) + 0 ≡ length (spelled a) = omega arith in
-    subst Can all (part.can a good 0 refl)
+    subst Can all (part.can a good 0 (omega arith, omega arith))
 
 -- such a part by its readers
 pub part_of : {A : Type 0} {Good : A → Type 0} {spelled : A → List ℕ} {read : ℕ → Reader A} {Can : ℕ → Type 0}
     → ((left : ℕ) → Can left → IsReader (Fills Good spelled left) spelled (read left)) → ((a : A) → Good a → Can (length (spelled a))) → IsPart Good spelled read Can IsNone
 part_of {spelled = spelled} {Can = Can} reads can = record {
-  reads = λ left can_fill. reworded_reads (reads left can_fill) (λ a f. (f.0, omega (arith, f.1), omega (arith, f.1))) (λ a l. (l.0, omega (arith, l.1, l.2)));
+  reads = λ left can_fill. reworded_reads (reads left can_fill) (λ a f. (f.0, omega (arith, f.1), (omega arith, omega (arith, f.1)))) (λ a l. (l.0, omega (arith, l.1, l.2.1)));
   can = λ a good n none.
-      let all : length (spelled a) ≡ length (spelled a) + n = omega (arith, none) in
+      let all : length (spelled a) ≡ length (spelled a) + n = omega (arith, none.1) in
       subst Can all (can a good);
 }

@@ -4,6 +4,7 @@
 mod body;
 pub mod command;
 pub mod frame;
+mod header;
 pub mod limits;
 mod party;
 mod pdu;
@@ -13,5 +14,5 @@ mod short_message;
 mod text;
 mod tlv;
 
-pub use frame::Frame;
+pub use frame::{Frame, read_frame};
 pub use pdu::{Body, Pdu};

@@ -1,6 +1,6 @@
 //! An address: its type of number, its numbering plan, its text (SMPP 3.4, 5.2.5 to 5.2.9).
 
-ghost use Rattle.std.specs.Prelude.{◌≡◌, ◌++◌, IfErr, OnOk, OnErr};
+ghost use Rattle.std.specs.Prelude.{◌≡◌, ◌<◌, ◌^◌, ◌++◌, length, IfOk, IfErr, OnOk, OnErr};
 ghost use Rattle.exact_octets.specs.Growth.{Keeps};
 ghost use Rattle.exact_octets.specs.Reading.{Gives, IsOfOctets};
 ghost use Rattle.smpp_wire.specs.Grammar.{party};
@@ -33,6 +33,7 @@ pub(crate) fn two_at(octets: &[u8]) -> Result<((u8, u8), &[u8]), ReadFault>
 #[tactic(auto, unfolding(crate::specs::Reading::party_at))]
 pub(crate) fn party_at(octets: &[u8], room: Room, left: usize) -> Result<(Party, &[u8]), ReadFault>
     ensures gives { Gives (λ x. (((x.0.ton, x.0.npi), x.0.address.now), x.1.now)) result (party_front room left octets.now) }
+    ensures short { IfOk result (λ x. length x.0.address.now < 2 ^ 63) }
     ensures no_memory { IfErr result IsOfOctets }
 {
     let ((ton, npi), rest) = two_at(octets)?;
