@@ -1,5 +1,5 @@
 -- A frame is read exactly.
-use Rattle.std.proofs.Common.{◌≡◌, ◌≢◌, ℕ, zero, suc, ◌+◌, ◌-◌, ◌*◌, ◌/◌, ◌%◌, ◌^◌, ◌<◌, ◌≤◌, Bool, true, false, eqb, List, [], ◌∷◌, ◌++◌, length, take, Result, Ok, Err, refl, sym, ap, subst, ◌∙◌, append_assoc, length-append, arith, inl, inr, ◌⊎◌}
+use Rattle.std.proofs.Common.{◌≡◌, ◌≢◌, ℕ, zero, suc, ◌+◌, ◌-◌, ◌*◌, ◌/◌, ◌%◌, ◌^◌, ◌<◌, ◌≤◌, Bool, true, false, cond, ltb, eqb, List, [], ◌∷◌, ◌++◌, length, take, Result, Ok, Err, refl, sym, ap, subst, ◌∙◌, append_assoc, length-append, arith, inl, inr, ◌⊎◌}
 use Rattle.std.specs.Prelude.{IfErr}
 use Rattle.std.specs.Borrow.{Bor}
 use Rattle.std.proofs.lemmas.Bool.{eq-eqb, ne_eqb}
@@ -8,13 +8,14 @@ use Rattle.exact_octets.specs.declared.read_fault.ReadFault.TheVariants as fault
 use Rattle.exact_octets.specs.declared.record_fault.RecordFault.TheVariants as told
 use Rattle.exact_octets.specs.Numbers.{number}
 use Rattle.exact_octets.specs.Fronts.{IsProperFront, BreaksOffAt, ReadsFirst}
-use Rattle.exact_octets.specs.Reading.{Reader, Gives, IsOfOctets, octet_at}
+use Rattle.exact_octets.specs.Reading.{Reader, Fails, Gives, IsOfOctets, octet_at}
 use Rattle.exact_octets.specs.Telling.{first_told}
 use Rattle.exact_octets.proofs.Readers.{AreOctets, IsReader, then_reads, ◌&◌, made_reads, octet_reads}
 use Rattle.exact_octets.proofs.Digits.{from_to_reads, up_to_reads}
 use Rattle.exact_octets.proofs.Fronts.{reads_first, lies_within}
 use Rattle.smpp_wire.specs.declared.frame.Frame.{Frame}
 use Rattle.smpp_wire.specs.declared.frame.Frame.TheVariants as answer
+use Rattle.smpp_wire.specs.declared.frame.TheConstants.{BAD_LENGTH, BAD_BODY}
 use Rattle.smpp_wire.specs.declared.pdu.Pdu.{Pdu}
 use Rattle.smpp_wire.specs.declared.row.Row.TheVariants as row
 use Rattle.smpp_wire.specs.Command.{Fields, Command, command_of}
@@ -126,3 +127,63 @@ pub frame_reads : IsReader IsCommand frame frame_at
 unfolding frame_at
 frame_reads =
     made_reads command_from (then_reads header_reads (λ h good. part_reads (row_part (row_of h.1.0)) h.0 good.1.0.1)) (record { there = parts_there; back = parts_back })
+
+-- ---- for the function that reads it
+
+-- a fault that is another
+pub fails_as : {A : Type 0} (fault fault' : ReadFault) (r : Result A ReadFault) → fault ≡ fault' → Fails fault r → Fails fault' r
+fails_as fault fault' r e h = subst (λ (f : ReadFault). Fails f r) e h
+
+abbrev pair : Command → ℕ → Command × ℕ
+pair command len = (command, len)
+
+abbrev as_read : Command → Bor (List ℕ) → Result (Command × Bor (List ℕ)) ReadFault
+as_read command rest = Ok (command, rest)
+
+abbrev failed : ReadFault → Result (Command × Bor (List ℕ)) ReadFault
+failed fault = Err fault
+
+pub reads_whole : (octets : List ℕ) (pdu : Pdu) (rest : Bor (List ℕ)) → AreOctets octets → frame_at octets ≡ Ok (command_of pdu, rest.now)
+    → (length rest.now ≤ length octets) × IsReadAs octets (answer.Whole pdu (length octets - length rest.now))
+reads_whole octets pdu rest are e =
+    let within = lies_within frame_reads octets (as_read (command_of pdu) rest) are e in
+    let r = reads_first frame_reads octets (as_read (command_of pdu) rest) are e in
+    (within, record {
+      told = r.found;
+      whole = λ command more good parts.
+          let same : pair (command_of pdu) (length octets - length rest.now) ≡ pair command (length (frame command)) = r.only command more good parts in
+          (ap (λ (p : Command × ℕ). p.0) same, ap (λ (p : Command × ℕ). p.1) same);
+      need_more = λ proper. absurd (r.short proper);
+      bad = λ seen broken. absurd (r.malformed seen broken);
+    })
+
+pub reads_short : (octets : List ℕ) → AreOctets octets → frame_at octets ≡ Err faults.Short → IsReadAs octets answer.NeedMore
+reads_short octets are e =
+    let r = reads_first frame_reads octets (failed faults.Short) are e in
+    record {
+      told = r.fault;
+      whole = λ command more good parts. absurd (r.only command more good parts);
+      need_more = λ proper. refl;
+      bad = λ seen broken. let other : told.Short ≡ told.Malformed seen = r.malformed seen broken in absurd cc;
+    }
+
+pub reads_malformed : (octets : List ℕ) (left : ℕ) → AreOctets octets → frame_at octets ≡ Err (faults.Malformed left) → (left ≤ length octets) × IsReadAs octets (refused (length octets - left))
+reads_malformed octets left are e =
+    let within = lies_within frame_reads octets (failed (faults.Malformed left)) are e in
+    let r = reads_first frame_reads octets (failed (faults.Malformed left)) are e in
+    (within, refusal octets (length octets - left) r)
+  where
+    tells : (octets : List ℕ) (at : ℕ) → BreaksOffAt IsFrame octets at → Tells octets (refused at)
+    tells octets at broken = within at (ltb at 4) refl broken
+      where
+        within : (at : ℕ) (early : Bool) → ltb at 4 ≡ early → BreaksOffAt IsFrame octets at → Tells octets (cond early (answer.Bad 0 BAD_LENGTH) (answer.Bad at BAD_BODY))
+        within at true e broken = (at, broken, ap (λ (b : Bool). cond b (answer.Bad 0 BAD_LENGTH) (answer.Bad at BAD_BODY)) (sym e))
+        within at false e broken = (at, broken, ap (λ (b : Bool). cond b (answer.Bad 0 BAD_LENGTH) (answer.Bad at BAD_BODY)) (sym e))
+
+    refusal : (octets : List ℕ) (at : ℕ) → ReadsFirst IsCommand frame octets (Err (told.Malformed at)) → IsReadAs octets (refused at)
+    refusal octets at r = record {
+      told = tells octets at r.fault;
+      whole = λ command more good parts. absurd (r.only command more good parts);
+      need_more = λ proper. let other : told.Malformed at ≡ told.Short = r.short proper in absurd cc;
+      bad = λ seen broken. let same : told.Malformed at ≡ told.Malformed seen = r.malformed seen broken in let is : at ≡ seen = cc in ap refused is;
+    }
