@@ -1,8 +1,11 @@
 //! Bodies, by the row of their command.
 
-ghost use Rattle.std.specs.Prelude.{◌≡◌, IfErr};
+ghost use Rattle.std.specs.Prelude.{◌≡◌, ◌≤◌, ◌++◌, length, IfErr, OnOk, OnErr};
+ghost use Rattle.exact_octets.specs.Growth.{Keeps};
 ghost use Rattle.exact_octets.specs.Reading.{Gives, IsOfOctets};
+ghost use Rattle.smpp_wire.specs.declared.row.Row.{Row};
 ghost use Rattle.smpp_wire.specs.Command.{fields_of};
+ghost use Rattle.smpp_wire.specs.Grammar.{IsOf, row_of, body as body_octets};
 ghost use Rattle.smpp_wire.specs.Reading.{body_at as body_front};
 
 mod any;
@@ -14,12 +17,14 @@ mod submit_reply;
 
 use crate::Body;
 use crate::row::Row;
+use crate::text::put_text;
 use any::any_body_at;
-use bind::bind_at;
-use bind_reply::bind_reply_at;
+use bind::{bind_at, put_bind};
+use bind_reply::{bind_reply_at, put_bind_reply};
 use deliver_reply::deliver_reply_at;
 use exact_octets::ReadFault;
-use message::message_at;
+use kn_base::{Memory, Octets};
+use message::{message_at, message_len, put_message};
 use submit_reply::submit_reply_at;
 
 /// A body of a row that fills `left` octets.
@@ -35,5 +40,45 @@ pub(crate) fn body_at(octets: &[u8], row: Row, left: usize) -> Result<(Body, &[u
         Row::DeliverReply => deliver_reply_at(octets),
         Row::Nothing => Ok((Body::Nothing, octets)),
         Row::Any => any_body_at(octets, left),
+    }
+}
+
+/// Puts the body of a command last. After `Memory` the old octets still stand first.
+pub(crate) fn put_body(into: &mut Octets, id: u32, body: &Body) -> Result<(), Memory>
+    requires { IsOf (row_of id) (fields_of body.now) }
+    ensures ok { OnOk result (into.new ≡ into.old ++ body_octets (fields_of body.now)) }
+    ensures err { OnErr result (Keeps into.old into.new) }
+{
+    match *body {
+        Body::Bind { .. } => put_bind(into, body),
+        Body::BindReply { system_id, tlvs } => put_bind_reply(into, system_id, tlvs),
+        Body::Message { .. } => put_message(into, body),
+        Body::SubmitReply { message_id } => put_text(into, message_id),
+        Body::DeliverReply => into.push(0),
+        Body::Nothing => Ok(()),
+        Body::Any(octets) => into.extend_from_slice(octets),
+    }
+}
+
+/// How many octets a body has.
+pub(crate) fn body_len(id: u32, body: &Body) -> usize
+    requires of { IsOf (row_of id) (fields_of body.now) }
+    requires short { length (body_octets (fields_of body.now)) ≤ 65520 }
+    ensures { result ≡ length (body_octets (fields_of body.now)) }
+{
+    match *body {
+        Body::Bind {
+            system_id,
+            password,
+            system_type,
+            address_range,
+            ..
+        } => 7 + system_id.len() + password.len() + system_type.len() + address_range.len(),
+        Body::BindReply { system_id, tlvs } => 1 + system_id.len() + tlvs.len(),
+        Body::Message { .. } => message_len(body),
+        Body::SubmitReply { message_id } => 1 + message_id.len(),
+        Body::DeliverReply => 1,
+        Body::Nothing => 0,
+        Body::Any(octets) => octets.len(),
     }
 }

@@ -13,6 +13,8 @@ mod row;
 mod short_message;
 mod text;
 mod tlv;
+mod write;
 
 pub use frame::{Frame, read_frame};
 pub use pdu::{Body, Pdu};
+pub use write::write_pdu;

@@ -42,10 +42,10 @@ pub(crate) fn party_at(octets: &[u8], room: Room, left: usize) -> Result<(Party,
 }
 
 /// Puts an address last. After `Memory` the old octets still stand first.
-pub(crate) fn put_party(into: &mut Octets, from_or_to: Party) -> Result<(), Memory>
-    ensures ok { OnOk result (into.new ≡ into.old ++ party from_or_to.entry.ton from_or_to.entry.npi from_or_to.entry.address.now) }
+pub(crate) fn put_party(into: &mut Octets, ton: u8, npi: u8, address: &[u8]) -> Result<(), Memory>
+    ensures ok { OnOk result (into.new ≡ into.old ++ party ton npi address.now) }
     ensures err { OnErr result (Keeps into.old into.new) }
 {
-    into.extend_from_slice(&[from_or_to.ton, from_or_to.npi])?;
-    put_text(into, from_or_to.address)
+    into.extend_from_slice(&[ton, npi])?;
+    put_text(into, address)
 }

@@ -3,15 +3,18 @@
 ghost use Rattle.std.specs.Prelude.{◌≡◌, ◌++◌, IfErr, OnOk, OnErr};
 ghost use Rattle.exact_octets.specs.Growth.{Keeps};
 ghost use Rattle.exact_octets.specs.Reading.{Gives, IsOfOctets};
+ghost use Rattle.smpp_wire.specs.declared.row.Row.TheVariants as row;
 ghost use Rattle.smpp_wire.specs.Command.{fields_of};
+ghost use Rattle.smpp_wire.specs.Grammar.{IsOf, body as body_octets};
 ghost use Rattle.smpp_wire.specs.Reading.{version_at as version_front, bind_at as bind_front};
 
 use crate::Body;
 use crate::limits::INTERFACE_VERSION;
 use crate::party::two_at;
 use crate::room::Room;
-use crate::text::{Sizes, text_at};
+use crate::text::{Sizes, put_text, text_at};
 use exact_octets::{ReadFault, octet_at};
+use kn_base::{Memory, Octets};
 
 /// The version, and the type and the plan of the addresses.
 #[tactic(auto, unfolding(crate::specs::Reading::version_at))]
@@ -51,4 +54,29 @@ pub(crate) fn bind_at(octets: &[u8], left: usize) -> Result<(Body, &[u8]), ReadF
         },
         rest,
     ))
+}
+
+/// Puts the body of a bind last. After `Memory` the old octets still stand first.
+pub(crate) fn put_bind(into: &mut Octets, body: &Body) -> Result<(), Memory>
+    requires { IsOf row.Bind (fields_of body.now) }
+    ensures ok { OnOk result (into.new ≡ into.old ++ body_octets (fields_of body.now)) }
+    ensures err { OnErr result (Keeps into.old into.new) }
+{
+    let Body::Bind {
+        system_id,
+        password,
+        system_type,
+        interface_version,
+        addr_ton,
+        addr_npi,
+        address_range,
+    } = *body
+    else {
+        unreachable!()
+    };
+    put_text(into, system_id)?;
+    put_text(into, password)?;
+    put_text(into, system_type)?;
+    into.extend_from_slice(&[interface_version, addr_ton, addr_npi])?;
+    put_text(into, address_range)
 }

@@ -1,11 +1,12 @@
 //! The body of submit_sm (SMPP 3.4, 4.4.1) and deliver_sm (4.6.1).
 
-ghost use Rattle.std.specs.Prelude.{◌≡◌, ◌<◌, ◌++◌, ◌∷◌, [], length, IfErr, OnOk, OnErr};
+ghost use Rattle.std.specs.Prelude.{◌≡◌, ◌≤◌, ◌++◌, ◌∷◌, [], length, IfErr, OnOk, OnErr};
 ghost use Rattle.exact_octets.specs.Growth.{Keeps};
 ghost use Rattle.exact_octets.specs.Reading.{Gives, IsOfOctets};
 ghost use Rattle.exact_octets.specs.Spelling.{short};
+ghost use Rattle.smpp_wire.specs.declared.row.Row.TheVariants as row;
 ghost use Rattle.smpp_wire.specs.Command.{fields_of};
-ghost use Rattle.smpp_wire.specs.Grammar.{ended, party};
+ghost use Rattle.smpp_wire.specs.Grammar.{ended, party, IsOf, body as body_octets};
 ghost use Rattle.smpp_wire.specs.Reading.{three_at as three_front, four_at as four_front, closing_at as closing_front, message_at as message_front};
 
 use crate::Body;
@@ -115,4 +116,92 @@ pub(crate) fn message_at(octets: &[u8], left: usize) -> Result<(Body, &[u8]), Re
         },
         rest,
     ))
+}
+
+/// Puts the fields from the times on last.
+fn put_closing(into: &mut Octets, closing: &Closing) -> Result<(), Memory>
+    requires { length closing.now.short_message.now ≤ 254 }
+    ensures ok { OnOk result (into.new ≡ into.old ++ (ended closing.now.schedule_delivery_time.now ++ (ended closing.now.validity_period.now ++ ((closing.now.registered_delivery ∷ closing.now.replace_if_present_flag ∷ closing.now.data_coding ∷ closing.now.sm_default_msg_id ∷ []) ++ (short closing.now.short_message.now ++ closing.now.tlvs.now))))) }
+    ensures err { OnErr result (Keeps into.old into.new) }
+{
+    put_text(into, closing.schedule_delivery_time)?;
+    put_text(into, closing.validity_period)?;
+    into.extend_from_slice(&[
+        closing.registered_delivery,
+        closing.replace_if_present_flag,
+        closing.data_coding,
+        closing.sm_default_msg_id,
+    ])?;
+    put_short(into, closing.short_message)?;
+    into.extend_from_slice(closing.tlvs)
+}
+
+/// Puts the body of a message last. After `Memory` the old octets still stand first.
+pub(crate) fn put_message(into: &mut Octets, body: &Body) -> Result<(), Memory>
+    requires { IsOf row.Message (fields_of body.now) }
+    ensures ok { OnOk result (into.new ≡ into.old ++ body_octets (fields_of body.now)) }
+    ensures err { OnErr result (Keeps into.old into.new) }
+{
+    let Body::Message {
+        service_type,
+        source_ton,
+        source_npi,
+        source,
+        destination_ton,
+        destination_npi,
+        destination,
+        esm_class,
+        protocol_id,
+        priority_flag,
+        schedule_delivery_time,
+        validity_period,
+        registered_delivery,
+        replace_if_present_flag,
+        data_coding,
+        sm_default_msg_id,
+        short_message,
+        tlvs,
+    } = *body
+    else {
+        unreachable!()
+    };
+    put_text(into, service_type)?;
+    put_party(into, source_ton, source_npi, source)?;
+    put_party(into, destination_ton, destination_npi, destination)?;
+    into.extend_from_slice(&[esm_class, protocol_id, priority_flag])?;
+    let closing = Closing {
+        schedule_delivery_time,
+        validity_period,
+        registered_delivery,
+        replace_if_present_flag,
+        data_coding,
+        sm_default_msg_id,
+        short_message,
+        tlvs,
+    };
+    put_closing(into, &closing)
+}
+
+/// How many octets the body of a message has.
+pub(crate) fn message_len(body: &Body) -> usize
+    requires of { IsOf row.Message (fields_of body.now) }
+    requires short { length (body_octets (fields_of body.now)) ≤ 65520 }
+    ensures { result ≡ length (body_octets (fields_of body.now)) }
+{
+    let Body::Message {
+        service_type,
+        source,
+        destination,
+        schedule_delivery_time,
+        validity_period,
+        short_message,
+        tlvs,
+        ..
+    } = *body
+    else {
+        unreachable!()
+    };
+    let texts = service_type.len() + source.len() + destination.len();
+    let times = schedule_delivery_time.len() + validity_period.len();
+    17 + texts + times + short_message.len() + tlvs.len()
 }
