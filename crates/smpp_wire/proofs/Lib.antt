@@ -5,3 +5,4 @@ pub mod Texts
 pub mod Tlvs
 pub mod Rows
 pub mod Frames
+pub mod Streams

@@ -4,5 +4,6 @@ pub use Rattle.exact_octets.specs.Numbers
 pub mod Command
 pub mod Grammar
 pub mod Answers
+pub mod Stream
 pub mod Room
 pub mod Reading
