@@ -1,28 +1,25 @@
 -- A frame is read exactly.
-use Rattle.std.proofs.Common.{◌≡◌, ◌≢◌, ℕ, zero, suc, ◌+◌, ◌-◌, ◌*◌, ◌/◌, ◌%◌, ◌^◌, ◌<◌, ◌≤◌, Bool, true, false, cond, ltb, eqb, List, [], ◌∷◌, ◌++◌, length, take, Result, Ok, Err, refl, sym, ap, subst, ◌∙◌, append_assoc, length-append, arith, inl, inr, ◌⊎◌}
-use Rattle.std.specs.Prelude.{IfErr}
+use Rattle.std.proofs.Common.{◌≡◌, ℕ, ◌+◌, ◌-◌, ◌*◌, ◌/◌, ◌%◌, ◌^◌, ◌<◌, ◌≤◌, Bool, true, false, cond, ltb, eqb, List, [], ◌∷◌, ◌++◌, length, Result, Ok, Err, refl, sym, ap, subst, ◌∙◌, arith}
 use Rattle.std.specs.Borrow.{Bor}
-use Rattle.std.proofs.lemmas.Bool.{eq-eqb, ne_eqb}
+use Rattle.std.proofs.lemmas.Bool.{ne_eqb}
 use Rattle.exact_octets.specs.declared.read_fault.ReadFault.{ReadFault}
 use Rattle.exact_octets.specs.declared.read_fault.ReadFault.TheVariants as faults
 use Rattle.exact_octets.specs.declared.record_fault.RecordFault.TheVariants as told
 use Rattle.exact_octets.specs.Numbers.{number}
-use Rattle.exact_octets.specs.Fronts.{IsProperFront, BreaksOffAt, ReadsFirst}
-use Rattle.exact_octets.specs.Reading.{Reader, Fails, Gives, IsOfOctets, octet_at}
-use Rattle.exact_octets.specs.Telling.{first_told}
+use Rattle.exact_octets.specs.Fronts.{BreaksOffAt, ReadsFirst}
+use Rattle.exact_octets.specs.Reading.{Fails, octet_at}
 use Rattle.exact_octets.proofs.Readers.{AreOctets, IsReader, then_reads, ◌&◌, made_reads, octet_reads}
 use Rattle.exact_octets.proofs.Digits.{from_to_reads, up_to_reads}
 use Rattle.exact_octets.proofs.Fronts.{reads_first, lies_within}
-use Rattle.smpp_wire.specs.declared.frame.Frame.{Frame}
 use Rattle.smpp_wire.specs.declared.frame.Frame.TheVariants as answer
 use Rattle.smpp_wire.specs.declared.frame.TheConstants.{BAD_LENGTH, BAD_BODY}
 use Rattle.smpp_wire.specs.declared.pdu.Pdu.{Pdu}
 use Rattle.smpp_wire.specs.declared.row.Row.TheVariants as row
 use Rattle.smpp_wire.specs.Command.{Fields, Command, command_of}
 use Rattle.smpp_wire.specs.Grammar.{row_of, IsOf, body, IsCommand, frame, IsFrame}
-use Rattle.smpp_wire.specs.Answers.{IsWhole, refused, Tells, IsReadAs}
+use Rattle.smpp_wire.specs.Answers.{refused, Tells, IsReadAs}
 use Rattle.smpp_wire.specs.Room.{room_of, fits}
-use Rattle.smpp_wire.specs.Reading.{id_at, header_at, body_at, command_from, frame_at}
+use Rattle.smpp_wire.specs.Reading.{id_at, header_at, command_from, frame_at}
 use Rattle.smpp_wire.proofs.Rooms.{Fits, fits_means, fits_tests}
 use Rattle.smpp_wire.proofs.Parts.{Fills, part_reads, part_can}
 use Rattle.smpp_wire.proofs.Rows.{row_part}

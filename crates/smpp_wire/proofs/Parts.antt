@@ -1,6 +1,6 @@
 -- Parts of octets whose length is known: a part is read by how many octets are left for it and what stands behind it.
-use Rattle.std.proofs.Common.{◌≡◌, ℕ, ◌+◌, ◌-◌, ◌≤◌, List, [], ◌++◌, length, refl, sym, ap, subst, ◌∙◌, length-append, arith}
-use Rattle.exact_octets.specs.Reading.{Reader, both, made}
+use Rattle.std.proofs.Common.{◌≡◌, ℕ, ◌+◌, ◌-◌, ◌≤◌, List, ◌++◌, length, sym, ap, subst, length-append, arith}
+use Rattle.exact_octets.specs.Reading.{Reader, made}
 use Rattle.exact_octets.proofs.Readers.{IsReader, Same, then_reads, made_reads, reworded_reads}
 use Rattle.smpp_wire.specs.Reading.{then_at}
 

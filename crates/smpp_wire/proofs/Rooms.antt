@@ -1,11 +1,11 @@
 -- What the tests of room mean.
-use Rattle.std.proofs.Common.{◌≡◌, ◌≢◌, ℕ, zero, suc, ◌+◌, ◌-◌, ◌<◌, ◌≤◌, max, Bool, true, false, leb, eqb, refl, arith, inl, inr, ◌⊎◌}
-use Rattle.std.specs.Prelude.{◌&&◌, ◌||◌}
+use Rattle.std.proofs.Common.{◌≡◌, ℕ, suc, ◌+◌, ◌-◌, ◌<◌, ◌≤◌, max, true, leb, eqb, arith, inl, inr, ◌⊎◌}
+use Rattle.std.specs.Prelude.{◌&&◌}
 use Rattle.std.proofs.lemmas.Bool.{leb-true, le-leb, eqb-true, eq-eqb, and_parts, and_from, or_cases, or_left, or_right}
 use Rattle.smpp_wire.specs.declared.room.Room.{Room}
 use Rattle.smpp_wire.specs.declared.room.Room.TheVariants.{From, Between, Tlvs}
 use Rattle.smpp_wire.specs.declared.text.Sizes.{Sizes}
-use Rattle.smpp_wire.specs.Room.{fits, up_to, times, is_size, may_end, leaves_room, may_go_on}
+use Rattle.smpp_wire.specs.Room.{fits, is_size, may_end, leaves_room, may_go_on}
 
 -- so many octets can be filled
 abbrev pub Fits : Room → ℕ → Type 0

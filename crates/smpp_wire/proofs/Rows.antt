@@ -1,6 +1,6 @@
 -- Each row of the table of bodies is read exactly.
-use Rattle.std.proofs.Common.{◌≡◌, ◌≢◌, ℕ, zero, suc, ◌+◌, ◌-◌, ◌<◌, ◌≤◌, Bool, true, false, cond, eqb, List, [], ◌∷◌, ◌++◌, length, All, refl, sym, ap, subst, ◌∙◌, length-append, arith, inl, inr, ◌⊎◌}
-use Rattle.std.proofs.lemmas.Bool.{cases_lt, eq-eqb, ne_eqb}
+use Rattle.std.proofs.Common.{◌≡◌, ℕ, zero, suc, ◌+◌, ◌-◌, ◌≤◌, false, eqb, List, [], ◌∷◌, ◌++◌, length, All, refl, sym, ap, subst, length-append, arith, inl, inr}
+use Rattle.std.proofs.lemmas.Bool.{cases_lt, ne_eqb}
 use Rattle.exact_octets.specs.declared.alphabet.Alphabet.TheVariants.{Any as AnyOctet}
 use Rattle.exact_octets.specs.Alphabet.{IsIn}
 use Rattle.exact_octets.specs.Spelling.{short}
@@ -8,18 +8,17 @@ use Rattle.exact_octets.specs.Reading.{Reader, given}
 use Rattle.exact_octets.proofs.Readers.{IsReader, ◌&◌, made_reads, given_reads, renamed_reads}
 use Rattle.exact_octets.proofs.Tests.{Between as Within}
 use Rattle.exact_octets.proofs.Fields.{between_reads, letter_reads, text_reads}
-use Rattle.smpp_wire.specs.declared.room.Room.{Room}
 use Rattle.smpp_wire.specs.declared.room.Room.TheVariants.{From, Between, Tlvs}
 use Rattle.smpp_wire.specs.declared.row.Row.{Row}
 use Rattle.smpp_wire.specs.declared.row.Row.TheVariants as row
 use Rattle.smpp_wire.specs.declared.text.Sizes.{Sizes}
-use Rattle.smpp_wire.specs.Command.{BindFields, MessageFields, Fields, Bind, BindReply, Message, SubmitReply, DeliverReply, Nothing, Any}
-use Rattle.smpp_wire.specs.Grammar.{IsText, IsTime, ended, party, AreTlvs, IsBind, bind, IsMessage, message, IsOf, body}
+use Rattle.smpp_wire.specs.Command.{Fields, Bind, BindReply, Message, SubmitReply, DeliverReply, Nothing, Any}
+use Rattle.smpp_wire.specs.Grammar.{IsText, IsTime, ended, AreTlvs, IsMessage, IsOf, body}
 use Rattle.smpp_wire.specs.Room.{room_of, up_to, times}
-use Rattle.smpp_wire.specs.Reading.{any_at, two_at, three_at, four_at, then_at, text_size, text_at, tlvs_at, short_message_at, bind_of, version_at, bind_at, bind_reply_at, party_at, party_size, Closing, closing_at, message_of, message_at, submit_reply_at, deliver_reply_at, any_body_at, body_at}
-use Rattle.smpp_wire.proofs.Rooms.{Fits, IsSize, IsRoom}
-use Rattle.smpp_wire.proofs.Parts.{IsPart, IsNone, Fills, fixed_part, reworded_part, regarded_part, then_part, made_part, part_reads, part_can, part_of}
-use Rattle.smpp_wire.proofs.Texts.{IsPlain, IsSized, Opens, text_part}
+use Rattle.smpp_wire.specs.Reading.{any_at, two_at, three_at, four_at, text_size, text_at, bind_of, version_at, system_at, bind_at, bind_reply_at, party_at, party_size, Contents, contents_at, Closing, closing_at, Delivery, delivery_at, message_of, message_at, submit_reply_at, deliver_reply_at, any_body_at, body_at}
+use Rattle.smpp_wire.proofs.Rooms.{Fits}
+use Rattle.smpp_wire.proofs.Parts.{IsPart, IsNone, Fills, fixed_part, reworded_part, regarded_part, then_part, made_part, part_reads, part_of}
+use Rattle.smpp_wire.proofs.Texts.{IsSized, Opens, text_part}
 use Rattle.smpp_wire.proofs.Tlvs.{IsShort, tlvs_part, short_message_part}
 
 -- ---- texts by their rooms
@@ -111,15 +110,24 @@ bind_back (Bind b) good =
     (good.system_id, (good.password, (good.system_type, (((omega (arith, good.interface_version), omega (arith, good.interface_version)), (tt, tt)), good.address_range)))), refl, refl)
 bind_back fields good = absurd good
 
+abbrev IsSystem : List ℕ × ((ℕ × (ℕ × ℕ)) × List ℕ) → Type 0
+IsSystem x = IsText 13 x.0 × ((Within 52 52 x.1.0.0 × (IsIn AnyOctet x.1.0.1.0 × IsIn AnyOctet x.1.0.1.1)) × IsText 41 x.1.1)
+
+abbrev system_octets : List ℕ × ((ℕ × (ℕ × ℕ)) × List ℕ) → List ℕ
+system_octets x = ended x.0 ++ (((x.1.0.0 ∷ []) ++ ((x.1.0.1.0 ∷ []) ++ (x.1.0.1.1 ∷ []))) ++ ended x.1.1)
+
+system_part : IsPart IsSystem system_octets system_at (Fits (Between 5 57)) IsNone
+unfolding system_at
+system_part =
+    then_part (text_between_part 13 4 44 (omega arith) (omega arith)) text_size (λ text good. text_sized text)
+    (then_part version_part (λ x. 3) (λ x good. refl) (text_between_part 41 0 0 (omega arith) (omega arith)))
+
 bind_part : IsPart (IsOf row.Bind) body bind_at (Fits (room_of row.Bind)) IsNone
 unfolding bind_at
 bind_part =
     made_part (λ (x : List ℕ × (List ℕ × (List ℕ × ((ℕ × (ℕ × ℕ)) × List ℕ)))). Bind (bind_of x))
     (then_part (text_between_part 16 6 66 (omega arith) (omega arith)) text_size (λ text good. text_sized text)
-    (then_part (text_between_part 9 5 57 (omega arith) (omega arith)) text_size (λ text good. text_sized text)
-    (then_part (text_between_part 13 4 44 (omega arith) (omega arith)) text_size (λ text good. text_sized text)
-    (then_part version_part (λ x. 3) (λ x good. refl)
-    (text_between_part 41 0 0 (omega arith) (omega arith))))))
+    (then_part (text_between_part 9 5 57 (omega arith) (omega arith)) text_size (λ text good. text_sized text) system_part))
     (record {
       there = λ x good. (record { system_id = good.0; password = good.1.0; system_type = good.1.1.0; interface_version = omega (arith, good.1.1.1.0.0.0, good.1.1.1.0.0.1); address_range = good.1.1.1.1 }, refl);
       back = bind_back;
@@ -291,36 +299,50 @@ party_part least = then_part (fixed_from 2 (suc least) two_reads (λ x good. ref
 party_sized : (x : Party) → IsParty x → party_size x ≡ length (party_octets x)
 party_sized x good = omega (arith, length-append x.1 (0 ∷ []))
 
+abbrev AreContents : Contents → Type 0
+AreContents x = Are4 x.0 × (IsShort x.1.0 × AreTlvs x.1.1)
+
+abbrev contents_octets : Contents → List ℕ
+contents_octets x = octets4 x.0 ++ (short x.1.0 ++ x.1.1)
+
+contents_part : IsPart AreContents contents_octets contents_at (Fits (From 5)) IsNone
+unfolding contents_at
+contents_part =
+    then_part (fixed_from 4 1 four_reads (λ x good. refl)) (λ x. 4) (λ x good. refl)
+    (then_part short_message_part text_size (λ text good. omega arith) tlvs_part)
+
 abbrev IsClosing : Closing → Type 0
-IsClosing x = IsTime x.0 × (IsTime x.1.0 × (Are4 x.1.1.0 × (IsShort x.1.1.1.0 × AreTlvs x.1.1.1.1)))
+IsClosing x = IsTime x.0 × (IsTime x.1.0 × AreContents x.1.1)
 
 abbrev closing_octets : Closing → List ℕ
-closing_octets x = ended x.0 ++ (ended x.1.0 ++ (octets4 x.1.1.0 ++ (short x.1.1.1.0 ++ x.1.1.1.1)))
+closing_octets x = ended x.0 ++ (ended x.1.0 ++ contents_octets x.1.1)
 
 closing_part : IsPart IsClosing closing_octets closing_at (Fits (From 7)) IsNone
 unfolding closing_at
 closing_part =
     then_part (time_part 6) text_size (λ text good. text_sized text)
-    (then_part (time_part 5) text_size (λ text good. text_sized text)
-    (then_part (fixed_from 4 1 four_reads (λ x good. refl)) (λ x. 4) (λ x good. refl)
-    (then_part short_message_part text_size (λ text good. omega arith) tlvs_part)))
+    (then_part (time_part 5) text_size (λ text good. text_sized text) contents_part)
+
+abbrev IsDelivery : Delivery → Type 0
+IsDelivery x = IsParty x.0 × (Are3 x.1.0 × IsClosing x.1.1)
+
+abbrev delivery_octets : Delivery → List ℕ
+delivery_octets x = party_octets x.0 ++ (octets3 x.1.0 ++ closing_octets x.1.1)
+
+delivery_part : IsPart IsDelivery delivery_octets delivery_at (Fits (From 13)) IsNone
+unfolding delivery_at
+delivery_part =
+    then_part (party_part 10) party_size party_sized
+    (then_part (fixed_from 3 7 three_reads (λ x good. refl)) (λ x. 3) (λ x good. refl) closing_part)
 
 abbrev MessageText : Type 0
-MessageText = List ℕ × (Party × (Party × (Octets3 × Closing)))
+MessageText = List ℕ × (Party × Delivery)
 
 abbrev IsMessageText : MessageText → Type 0
-IsMessageText x = IsText 6 x.0 × (IsParty x.1.0 × (IsParty x.1.1.0 × (Are3 x.1.1.1.0 × IsClosing x.1.1.1.1)))
+IsMessageText x = IsText 6 x.0 × (IsParty x.1.0 × IsDelivery x.1.1)
 
 abbrev message_octets : MessageText → List ℕ
-message_octets x = ended x.0 ++ (party_octets x.1.0 ++ (party_octets x.1.1.0 ++ (octets3 x.1.1.1.0 ++ closing_octets x.1.1.1.1)))
-
-message_text_part : IsPart IsMessageText message_octets
-    (then_at text_size (text_at (up_to 6) (From 16)) (then_at party_size (party_at (From 13)) (then_at party_size (party_at (From 10)) (then_at (λ x. 3) (λ left. three_at) closing_at)))) (Fits (From 17)) IsNone
-message_text_part =
-    then_part (text_from_part 6 16 (omega arith)) text_size (λ text good. text_sized text)
-    (then_part (party_part 13) party_size party_sized
-    (then_part (party_part 10) party_size party_sized
-    (then_part (fixed_from 3 7 three_reads (λ x good. refl)) (λ x. 3) (λ x good. refl) closing_part)))
+message_octets x = ended x.0 ++ (party_octets x.1.0 ++ delivery_octets x.1.1)
 
 message_there : (x : MessageText) → IsMessageText x → IsMessage (message_of x)
 message_there x good = record {
@@ -343,7 +365,9 @@ message_back fields good = absurd good
 
 message_part : IsPart (IsOf row.Message) body message_at (Fits (room_of row.Message)) IsNone
 unfolding message_at
-message_part = made_part (λ (x : MessageText). Message (message_of x)) message_text_part (record { there = λ x good. (message_there x good, refl); back = message_back })
+message_part = made_part (λ (x : MessageText). Message (message_of x))
+    (then_part (text_from_part 6 16 (omega arith)) text_size (λ text good. text_sized text) (then_part (party_part 13) party_size party_sized delivery_part))
+    (record { there = λ x good. (message_there x good, refl); back = message_back })
 
 -- ---- any row
 

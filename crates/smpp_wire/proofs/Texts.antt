@@ -4,9 +4,8 @@ use Rattle.std.specs.List.{AllByRecursion}
 use Rattle.std.proofs.lemmas.Bool.{cases_Bool, eqb-true, eqb-false, ne_eqb}
 use Rattle.std.proofs.lemmas.List.Elements.{All-from_recursion, recursion_from_All}
 use Rattle.exact_octets.specs.declared.read_fault.ReadFault.{ReadFault}
-use Rattle.exact_octets.specs.declared.read_fault.ReadFault.TheVariants as faults
 use Rattle.exact_octets.specs.Reading.{◌>>=◌, Reader, both, made, given, octet_at}
-use Rattle.exact_octets.proofs.Readers.{AreOctets, Answers, IsReader, then_reads, made_reads, given_reads, octet_reads, reworded_reads}
+use Rattle.exact_octets.proofs.Readers.{Answers, IsReader, then_reads, made_reads, given_reads, octet_reads, reworded_reads}
 use Rattle.smpp_wire.specs.declared.room.Room.{Room}
 use Rattle.smpp_wire.specs.declared.text.Sizes.{Sizes}
 use Rattle.smpp_wire.specs.Grammar.{ended}

@@ -1,5 +1,5 @@
 -- What reading a frame answers: one stands at the front, one may still come, or none can.
-use Rattle.std.specs.Prelude.{◌≡◌, ℕ, ◌<◌, List, ◌++◌, length, take, ◌==◌, nat_lt, if◌then◌else◌}
+use Rattle.std.specs.Prelude.{◌≡◌, ℕ, List, ◌++◌, length, take, nat_lt, if◌then◌else◌}
 use Rattle.exact_octets.specs.Fronts.{IsProperFront, BreaksOffAt}
 use Rattle.smpp_wire.specs.declared.frame.Frame.{Frame}
 use Rattle.smpp_wire.specs.declared.frame.Frame.TheVariants as answer

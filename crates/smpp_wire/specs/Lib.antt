@@ -7,3 +7,4 @@ pub mod Answers
 pub mod Stream
 pub mod Room
 pub mod Reading
+pub mod Parts

@@ -1,5 +1,5 @@
 -- How a frame is read, from left to right. Where a field has a length of its own, its reader is told how many octets are left for it and for all behind it.
-use Rattle.std.specs.Prelude.{ℕ, zero, suc, ◌+◌, ◌*◌, ◌-◌, ◌^◌, Bool, List, [], ◌∷◌, length, Ok, Err, nat_le, ◌&&◌, ◌||◌, ◌==◌, if◌then◌else◌}
+use Rattle.std.specs.Prelude.{ℕ, suc, ◌+◌, ◌*◌, ◌-◌, Bool, List, [], ◌∷◌, length, Ok, Err, nat_le, ◌&&◌, ◌||◌, ◌==◌, if◌then◌else◌}
 use Rattle.std.specs.List.{flat_map}
 use Rattle.exact_octets.specs.declared.alphabet.Alphabet.TheVariants.{Any as AnyOctet}
 use Rattle.exact_octets.specs.declared.read_fault.ReadFault.TheVariants as faults
@@ -99,11 +99,15 @@ bind_of x = record {
 unfoldable pub version_at : Reader (ℕ × (ℕ × ℕ))
 version_at = both (octet_at (within INTERFACE_VERSION INTERFACE_VERSION)) (λ version. two_at)
 
+-- the fields of a bind from the system_type on
+unfoldable pub system_at : ℕ → Reader (List ℕ × ((ℕ × (ℕ × ℕ)) × List ℕ))
+system_at =
+    then_at text_size (text_at (up_to 13) (Between 4 44)) (then_at (λ x. 3) (λ left. version_at) (text_at (up_to 41) (Between 0 0)))
+
 unfoldable pub bind_at : ℕ → Reader Fields
 bind_at left =
     made (λ x. Bind (bind_of x))
-    (then_at text_size (text_at (up_to 16) (Between 6 66)) (then_at text_size (text_at (up_to 9) (Between 5 57)) (then_at text_size (text_at (up_to 13) (Between 4 44))
-    (then_at (λ x. 3) (λ left. version_at) (text_at (up_to 41) (Between 0 0))))) left)
+    (then_at text_size (text_at (up_to 16) (Between 6 66)) (then_at text_size (text_at (up_to 9) (Between 5 57)) system_at) left)
 
 unfoldable pub bind_reply_at : ℕ → Reader Fields
 bind_reply_at left =
@@ -117,16 +121,26 @@ party_at room = then_at (λ x. 2) (λ left. two_at) (text_at (up_to 21) room)
 abbrev pub party_size : (ℕ × ℕ) × List ℕ → ℕ
 party_size x = length x.1 + 3
 
--- the fields of a message from the times on
+-- the fields of a message behind the times, from the times on, and from the destination on
+abbrev pub Contents : Type 0
+Contents = (ℕ × (ℕ × (ℕ × ℕ))) × (List ℕ × List ℕ)
+
 abbrev pub Closing : Type 0
-Closing = List ℕ × (List ℕ × ((ℕ × (ℕ × (ℕ × ℕ))) × (List ℕ × List ℕ)))
+Closing = List ℕ × (List ℕ × Contents)
+
+abbrev pub Delivery : Type 0
+Delivery = ((ℕ × ℕ) × List ℕ) × ((ℕ × (ℕ × ℕ)) × Closing)
+
+unfoldable pub contents_at : ℕ → Reader Contents
+contents_at = then_at (λ x. 4) (λ left. four_at) (then_at text_size short_message_at tlvs_at)
 
 unfoldable pub closing_at : ℕ → Reader Closing
-closing_at =
-    then_at text_size (text_at times (From 6)) (then_at text_size (text_at times (From 5))
-    (then_at (λ x. 4) (λ left. four_at) (then_at text_size short_message_at tlvs_at)))
+closing_at = then_at text_size (text_at times (From 6)) (then_at text_size (text_at times (From 5)) contents_at)
 
-abbrev pub message_of : List ℕ × (((ℕ × ℕ) × List ℕ) × (((ℕ × ℕ) × List ℕ) × ((ℕ × (ℕ × ℕ)) × Closing))) → MessageFields
+unfoldable pub delivery_at : ℕ → Reader Delivery
+delivery_at = then_at party_size (party_at (From 10)) (then_at (λ x. 3) (λ left. three_at) closing_at)
+
+abbrev pub message_of : List ℕ × (((ℕ × ℕ) × List ℕ) × Delivery) → MessageFields
 message_of x = record {
   service_type = x.0;
   source_ton = x.1.0.0.0;
@@ -151,8 +165,7 @@ message_of x = record {
 unfoldable pub message_at : ℕ → Reader Fields
 message_at left =
     made (λ x. Message (message_of x))
-    (then_at text_size (text_at (up_to 6) (From 16)) (then_at party_size (party_at (From 13)) (then_at party_size (party_at (From 10))
-    (then_at (λ x. 3) (λ left. three_at) closing_at))) left)
+    (then_at text_size (text_at (up_to 6) (From 16)) (then_at party_size (party_at (From 13)) delivery_at) left)
 
 unfoldable pub submit_reply_at : ℕ → Reader Fields
 submit_reply_at left = if left == 0 then given Nothing else made SubmitReply (text_at (up_to 65) (Between 0 0) left)

@@ -4,6 +4,7 @@ ghost use Rattle.std.specs.Prelude.{◌≡◌, ◌<◌, ◌^◌, ◌++◌, lengt
 ghost use Rattle.exact_octets.specs.Growth.{Keeps};
 ghost use Rattle.exact_octets.specs.Reading.{Gives, IsOfOctets};
 ghost use Rattle.smpp_wire.specs.Grammar.{party};
+ghost use Rattle.smpp_wire.specs.Parts.{party_tuple};
 ghost use Rattle.smpp_wire.specs.Reading.{two_at as two_front, party_at as party_front};
 
 use crate::room::Room;
@@ -32,7 +33,7 @@ pub(crate) fn two_at(octets: &[u8]) -> Result<((u8, u8), &[u8]), ReadFault>
 /// An address of at most 20 octets, where `room` says how many may stand behind it.
 #[tactic(auto, unfolding(crate::specs::Reading::party_at))]
 pub(crate) fn party_at(octets: &[u8], room: Room, left: usize) -> Result<(Party, &[u8]), ReadFault>
-    ensures gives { Gives (λ x. (((x.0.ton, x.0.npi), x.0.address.now), x.1.now)) result (party_front room left octets.now) }
+    ensures gives { Gives (λ x. (party_tuple x.0, x.1.now)) result (party_front room left octets.now) }
     ensures short { IfOk result (λ x. length x.0.address.now < 2 ^ 63) }
     ensures no_memory { IfErr result IsOfOctets }
 {
@@ -42,10 +43,10 @@ pub(crate) fn party_at(octets: &[u8], room: Room, left: usize) -> Result<(Party,
 }
 
 /// Puts an address last. After `Memory` the old octets still stand first.
-pub(crate) fn put_party(into: &mut Octets, ton: u8, npi: u8, address: &[u8]) -> Result<(), Memory>
-    ensures ok { OnOk result (into.new ≡ into.old ++ party ton npi address.now) }
+pub(crate) fn put_party(into: &mut Octets, from_or_to: &Party) -> Result<(), Memory>
+    ensures ok { OnOk result (into.new ≡ into.old ++ party from_or_to.now.ton from_or_to.now.npi from_or_to.now.address.now) }
     ensures err { OnErr result (Keeps into.old into.new) }
 {
-    into.extend_from_slice(&[ton, npi])?;
-    put_text(into, address)
+    into.extend_from_slice(&[from_or_to.ton, from_or_to.npi])?;
+    put_text(into, from_or_to.address)
 }
