@@ -111,14 +111,18 @@ abbrev AreParts : Parts → Type 0
 AreParts p = IsHeader p.0 × Fills (IsOf (row_of p.0.1.0)) body p.0.0 p.1
 
 parts_there : (p : Parts) → AreParts p → IsCommand (command_from p) × (frame (command_from p) ≡ header_octets p.0 ++ body p.1)
-parts_there p good =
-    (record { id = good.0.1.0.0; status = omega (arith, good.0.1.1.0); sequence = omega (arith, good.0.1.1.1); fields = good.1.0; len = omega (arith, good.1.1, good.0.0) },
-    ap (λ (n : ℕ). number 4 (16 + n) ++ (number 4 p.0.1.0 ++ (number 4 p.0.1.1.0 ++ (number 4 p.0.1.1.1 ++ body p.1)))) good.1.1)
+parts_there p good = (
+  record { id = good.0.1.0.0; status = omega (arith, good.0.1.1.0); sequence = omega (arith, good.0.1.1.1); fields = good.1.0; len = omega (arith, good.1.1, good.0.0) },
+  ap (λ (n : ℕ). number 4 (16 + n) ++ (number 4 p.0.1.0 ++ (number 4 p.0.1.1.0 ++ (number 4 p.0.1.1.1 ++ body p.1)))) good.1.1,
+)
 
 parts_back : (c : Command) → IsCommand c → (p : Parts) × AreParts p × (command_from p ≡ c) × (header_octets p.0 ++ body p.1 ≡ frame c)
-parts_back c good =
-    (((length (body c.fields), (c.id, (c.status, c.sequence))), c.fields),
-    ((omega (arith, good.len), ((good.id, part_can (row_part (row_of c.id)) c.fields good.fields), (omega (arith, good.status), omega (arith, good.sequence)))), (good.fields, refl)), refl, refl)
+parts_back c good = (
+  ((length (body c.fields), (c.id, (c.status, c.sequence))), c.fields),
+  ((omega (arith, good.len), ((good.id, part_can (row_part (row_of c.id)) c.fields good.fields), (omega (arith, good.status), omega (arith, good.sequence)))), (good.fields, refl)),
+  refl,
+  refl,
+)
 
 pub frame_reads : IsReader IsCommand frame frame_at
 unfolding frame_at
@@ -144,15 +148,17 @@ pub reads_whole : (octets : List ℕ) (pdu : Pdu) (rest : Bor (List ℕ)) → Ar
     → (length rest.now ≤ length octets) × IsReadAs octets (answer.Whole pdu (length octets - length rest.now))
 reads_whole octets pdu rest are e =
     let within = lies_within frame_reads octets (as_read (command_of pdu) rest) are e in
-    let r = reads_first frame_reads octets (as_read (command_of pdu) rest) are e in
-    (within, record {
-      told = r.found;
-      whole = λ command more good parts.
-          let same : pair (command_of pdu) (length octets - length rest.now) ≡ pair command (length (frame command)) = r.only command more good parts in
-          (ap (λ (p : Command × ℕ). p.0) same, ap (λ (p : Command × ℕ). p.1) same);
-      need_more = λ proper. absurd (r.short proper);
-      bad = λ seen broken. absurd (r.malformed seen broken);
-    })
+    let r = reads_first frame_reads octets (as_read (command_of pdu) rest) are e in (
+      within,
+      record {
+        told = r.found;
+        whole = λ command more good parts.
+            let same : pair (command_of pdu) (length octets - length rest.now) ≡ pair command (length (frame command)) = r.only command more good parts in
+            (ap (λ (p : Command × ℕ). p.0) same, ap (λ (p : Command × ℕ). p.1) same);
+        need_more = λ proper. absurd (r.short proper);
+        bad = λ seen broken. absurd (r.malformed seen broken);
+      },
+    )
 
 pub reads_short : (octets : List ℕ) → AreOctets octets → frame_at octets ≡ Err faults.Short → IsReadAs octets answer.NeedMore
 reads_short octets are e =

@@ -68,7 +68,7 @@ module _ {A B : Type 0} (GA : A → Type 0) (sA : A → List ℕ) (rA : ℕ → 
     reads = λ left can.
         reworded_reads
         (then_reads (first.reads left can) (λ a leaves.
-            subst (λ (n : ℕ). IsReader (Leaves GB sB Rest (left - length (sA a))) sB (rB (left - n))) (sym (is a leaves.0)) (second.reads (left - length (sA a)) leaves.2)))
+        subst (λ (n : ℕ). IsReader (Leaves GB sB Rest (left - length (sA a))) sB (rB (left - n))) (sym (is a leaves.0)) (second.reads (left - length (sA a)) leaves.2)))
         (leaves_there left) (leaves_back left);
     can = λ p good n rest.
         let len = length-append (sA p.0) (sB p.1) in

@@ -18,12 +18,12 @@ fits_means (From least) left e = leb-true least left e
 fits_means (Between least most) left e =
     let t = and_parts (leb least left) (leb left most) e in
     (leb-true least left t.0, leb-true left most t.1)
-fits_means Tlvs left e = elim (or_cases (eqb left 0) (leb 4 left) e) [ | inl none ↦ inl (eqb-true left 0 none) | inr some ↦ inr (leb-true 4 left some) ]
+fits_means Tlvs left e = elim (or_cases (eqb left 0) (leb 4 left) e) [ inl none ↦ inl (eqb-true left 0 none) | inr some ↦ inr (leb-true 4 left some) ]
 
 pub fits_tests : (room : Room) (left : ℕ) → Fits room left → fits room left ≡ true
 fits_tests (From least) left f = le-leb least left f
 fits_tests (Between least most) left f = and_from (leb least left) (leb left most) (le-leb least left f.0) (le-leb left most f.1)
-fits_tests Tlvs left f = elim f [ | inl none ↦ or_left (eqb left 0) (leb 4 left) (eq-eqb left 0 none) | inr some ↦ or_right (eqb left 0) (leb 4 left) (le-leb 4 left some) ]
+fits_tests Tlvs left f = elim f [ inl none ↦ or_left (eqb left 0) (leb 4 left) (eq-eqb left 0 none) | inr some ↦ or_right (eqb left 0) (leb 4 left) (le-leb 4 left some) ]
 
 -- a text may have so many octets
 abbrev pub IsSize : Sizes → ℕ → Type 0
@@ -113,4 +113,4 @@ goes_on sizes room left before some is e =
 
 -- a text ends before the last of its sizes
 pub ends_before : (sizes : Sizes) (room : Room) (left before : ℕ) → 1 ≤ sizes.most → Ends sizes room left before → before < sizes.most
-ends_before sizes room left before some e = elim e.0 [ | inl one ↦ omega (arith, one) | inr more ↦ omega (arith, more.1) ]
+ends_before sizes room left before some e = elim e.0 [ inl one ↦ omega (arith, one) | inr more ↦ omega (arith, more.1) ]

@@ -27,16 +27,16 @@ text_sized : (text : List ℕ) → text_size text ≡ length (ended text)
 text_sized text = omega (arith, length-append text (0 ∷ []))
 
 sized_text : (most : ℕ) → 1 ≤ most → (text : List ℕ) → IsSized (up_to most) text → IsText most text
-sized_text most some text good = elim good.1 [ | inl one ↦ (good.0, omega (arith, one)) | inr more ↦ (good.0, omega (arith, more.1)) ]
+sized_text most some text good = elim good.1 [ inl one ↦ (good.0, omega (arith, one)) | inr more ↦ (good.0, omega (arith, more.1)) ]
 
 text_sized_back : (most : ℕ) (text : List ℕ) → IsText most text → IsSized (up_to most) text
 text_sized_back most text good = (good.0, inr (omega arith, omega (arith, good.1)))
 
 sized_time : (text : List ℕ) → IsSized times text → IsTime text
-sized_time text good = elim good.1 [ | inl one ↦ (good.0, inl (omega (arith, one))) | inr more ↦ (good.0, inr (omega (arith, more.0, more.1))) ]
+sized_time text good = elim good.1 [ inl one ↦ (good.0, inl (omega (arith, one))) | inr more ↦ (good.0, inr (omega (arith, more.0, more.1))) ]
 
 time_sized : (text : List ℕ) → IsTime text → IsSized times text
-time_sized text good = elim good.1 [ | inl none ↦ (good.0, inl (omega (arith, none))) | inr all ↦ (good.0, inr (omega (arith, all), omega (arith, all))) ]
+time_sized text good = elim good.1 [ inl none ↦ (good.0, inl (omega (arith, none))) | inr all ↦ (good.0, inr (omega (arith, all), omega (arith, all))) ]
 
 opens_from : (sizes : Sizes) (least left : ℕ) → Fits (From (suc least)) left → Opens sizes (From least) left
 opens_from sizes least left f = (0, (inl refl, omega (arith, f), omega (arith, f)))
@@ -105,9 +105,12 @@ IsBindText x = IsText 16 x.0 × (IsText 9 x.1.0 × (IsText 13 x.1.1.0 × ((Withi
 
 bind_back : (fields : Fields) → IsOf row.Bind fields → (x : List ℕ × (List ℕ × (List ℕ × ((ℕ × (ℕ × ℕ)) × List ℕ)))) × IsBindText x × (Bind (bind_of x) ≡ fields)
     × (ended x.0 ++ (ended x.1.0 ++ (ended x.1.1.0 ++ (((x.1.1.1.0.0 ∷ []) ++ ((x.1.1.1.0.1.0 ∷ []) ++ (x.1.1.1.0.1.1 ∷ []))) ++ ended x.1.1.1.1))) ≡ body fields)
-bind_back (Bind b) good =
-    ((b.system_id, (b.password, (b.system_type, ((b.interface_version, (b.addr_ton, b.addr_npi)), b.address_range)))),
-    (good.system_id, (good.password, (good.system_type, (((omega (arith, good.interface_version), omega (arith, good.interface_version)), (tt, tt)), good.address_range)))), refl, refl)
+bind_back (Bind b) good = (
+  (b.system_id, (b.password, (b.system_type, ((b.interface_version, (b.addr_ton, b.addr_npi)), b.address_range)))),
+  (good.system_id, (good.password, (good.system_type, (((omega (arith, good.interface_version), omega (arith, good.interface_version)), (tt, tt)), good.address_range)))),
+  refl,
+  refl,
+)
 bind_back fields good = absurd good
 
 abbrev IsSystem : List ℕ × ((ℕ × (ℕ × ℕ)) × List ℕ) → Type 0
@@ -356,11 +359,36 @@ message_there x good = record {
 }
 
 message_back : (fields : Fields) → IsOf row.Message fields → (x : MessageText) × IsMessageText x × (Message (message_of x) ≡ fields) × (message_octets x ≡ body fields)
-message_back (Message m) good =
-    ((m.service_type, (((m.source_ton, m.source_npi), m.source), (((m.destination_ton, m.destination_npi), m.destination), ((m.esm_class, (m.protocol_id, m.priority_flag)),
-    (m.schedule_delivery_time, (m.validity_period, ((m.registered_delivery, (m.replace_if_present_flag, (m.data_coding, m.sm_default_msg_id))), (m.short_message, m.tlvs)))))))),
-    (good.service_type, (((tt, tt), good.source), (((tt, tt), good.destination), ((tt, (tt, tt)),
-    (good.schedule_delivery_time, (good.validity_period, ((tt, (tt, (tt, tt))), (good.short_message, good.tlvs)))))))), refl, refl)
+message_back (Message m) good = (
+  (
+    m.service_type,
+    (
+      ((m.source_ton, m.source_npi), m.source),
+      (
+        ((m.destination_ton, m.destination_npi), m.destination),
+        (
+          (m.esm_class, (m.protocol_id, m.priority_flag)),
+          (m.schedule_delivery_time, (m.validity_period, ((m.registered_delivery, (m.replace_if_present_flag, (m.data_coding, m.sm_default_msg_id))), (m.short_message, m.tlvs)))),
+        ),
+      ),
+    ),
+  ),
+  (
+    good.service_type,
+    (
+      ((tt, tt), good.source),
+      (
+        ((tt, tt), good.destination),
+        (
+          (tt, (tt, tt)),
+          (good.schedule_delivery_time, (good.validity_period, ((tt, (tt, (tt, tt))), (good.short_message, good.tlvs)))),
+        ),
+      ),
+    ),
+  ),
+  refl,
+  refl,
+)
 message_back fields good = absurd good
 
 message_part : IsPart (IsOf row.Message) body message_at (Fits (room_of row.Message)) IsNone

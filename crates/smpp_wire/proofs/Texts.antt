@@ -68,8 +68,8 @@ module _ (ends goes : ℕ → Bool) (total : ℕ) (later : (before : ℕ) → go
   made_of_steps before [] = refl
   made_of_steps before (octet ∷ rest) =
       elim (cases_Bool (eqb octet 0)) [
-        | inl e ↦ elim (cases_Bool (ends before)) [ | inl f ↦ rw (e, f) (rw e (ap (λ (b : Bool). ok (cond b [] (octet ∷ [])) rest) e)) | inr f ↦ rw (e, f) refl ]
-        | inr e ↦ elim (cases_Bool (goes before)) [ | inl f ↦ rw (e, f) (rw e (again octet rest (text_from ends goes (suc before) rest) e)) | inr f ↦ rw (e, f) refl ]
+        | inl e ↦ elim (cases_Bool (ends before)) [ inl f ↦ rw (e, f) (rw e (ap (λ (b : Bool). ok (cond b [] (octet ∷ [])) rest) e)) | inr f ↦ rw (e, f) refl ]
+        | inr e ↦ elim (cases_Bool (goes before)) [ inl f ↦ rw (e, f) (rw e (again octet rest (text_from ends goes (suc before) rest) e)) | inr f ↦ rw (e, f) refl ]
       ]
 
   -- what may stand behind an octet, and its octets

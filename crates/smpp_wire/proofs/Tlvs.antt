@@ -36,10 +36,10 @@ abbrev IsValueLen : ℕ → ℕ → Type 0
 IsValueLen left len = (len + 4 ≡ left) ⊎ (len + 8 ≤ left)
 
 value_len_means : (left len : ℕ) → is_value_len left len ≡ true → IsValueLen left len
-value_len_means left len e = elim (or_cases (eqb (len + 4) left) (leb (len + 8) left) e) [ | inl last ↦ inl (eqb-true (len + 4) left last) | inr more ↦ inr (leb-true (len + 8) left more) ]
+value_len_means left len e = elim (or_cases (eqb (len + 4) left) (leb (len + 8) left) e) [ inl last ↦ inl (eqb-true (len + 4) left last) | inr more ↦ inr (leb-true (len + 8) left more) ]
 
 value_len_tests : (left len : ℕ) → IsValueLen left len → is_value_len left len ≡ true
-value_len_tests left len good = elim good [ | inl last ↦ or_left (eqb (len + 4) left) (leb (len + 8) left) (eq-eqb (len + 4) left last) | inr more ↦ or_right (eqb (len + 4) left) (leb (len + 8) left) (le-leb (len + 8) left more) ]
+value_len_tests left len good = elim good [ inl last ↦ or_left (eqb (len + 4) left) (leb (len + 8) left) (eq-eqb (len + 4) left last) | inr more ↦ or_right (eqb (len + 4) left) (leb (len + 8) left) (le-leb (len + 8) left more) ]
 
 abbrev IsLowLen : ℕ → ℕ → ℕ → Type 0
 IsLowLen left high low = (low < 256) × IsValueLen left (high * 256 + low)
@@ -75,7 +75,7 @@ value_len_reads left le =
           let whole : len / 256 * 256 + len % 256 ≡ len = omega arith in
           let high : len / 256 < 256 = omega (arith, good.0) in
           let low : len % 256 < 256 = omega arith in
-          let le : len / 256 * 256 + 4 ≤ left = elim good.1 [ | inl last ↦ omega (arith, last) | inr more ↦ omega (arith, more) ] in
+          let le : len / 256 * 256 + 4 ≤ left = elim good.1 [ inl last ↦ omega (arith, last) | inr more ↦ omega (arith, more) ] in
           ((len / 256, len % 256), ((high, le), (low, subst (IsValueLen left) (sym whole) good.1)), whole, sym (two_octets (len / 256) (len % 256) high low) ∙ ap (number 2) whole);
     })
 
@@ -115,7 +115,7 @@ tlvs_can [] good = inl refl
 tlvs_can (t ∷ ts) good = inr (omega (arith, tlv_len t, length-append (tlv t) (flat_map tlv ts)))
 
 some_left : (left : ℕ) → 0 < left → Fits Tlvs left → 4 ≤ left
-some_left left some f = elim f [ | inl none ↦ absurd (omega (arith, none)) | inr le ↦ le ]
+some_left left some f = elim f [ inl none ↦ absurd (omega (arith, none)) | inr le ↦ le ]
 
 filled_tlvs : (left : ℕ) → Fits Tlvs left → IsReader (Fill IsTlv tlv tlv_at (Fits Tlvs) left) (flat_map tlv) (filled_at tlv_at tlv left)
 filled_tlvs = filled_reads IsTlv tlv tlv_at (Fits Tlvs) (λ left some f. tlv_reads left (some_left left some f)) (λ t good. omega (arith, tlv_len t)) tlvs_can

@@ -17,15 +17,14 @@ mod submit_reply;
 
 use crate::Body;
 use crate::row::Row;
-use crate::text::put_text;
-use any::any_body_at;
+use any::{any_body_at, put_any_body};
 use bind::{bind_at, put_bind};
 use bind_reply::{bind_reply_at, put_bind_reply};
-use deliver_reply::deliver_reply_at;
+use deliver_reply::{deliver_reply_at, put_deliver_reply};
 use exact_octets::ReadFault;
 use kn_base::{Memory, Octets};
 use message::{message_at, message_len, put_message};
-use submit_reply::submit_reply_at;
+use submit_reply::{put_submit_reply, submit_reply_at};
 
 /// A body of a row that fills `left` octets.
 pub(crate) fn body_at(octets: &[u8], row: Row, left: usize) -> Result<(Body, &[u8]), ReadFault>
@@ -53,10 +52,10 @@ pub(crate) fn put_body(into: &mut Octets, id: u32, body: &Body) -> Result<(), Me
         Body::Bind { .. } => put_bind(into, body),
         Body::BindReply { system_id, tlvs } => put_bind_reply(into, system_id, tlvs),
         Body::Message { .. } => put_message(into, body),
-        Body::SubmitReply { message_id } => put_text(into, message_id),
-        Body::DeliverReply => into.push(0),
+        Body::SubmitReply { message_id } => put_submit_reply(into, message_id),
+        Body::DeliverReply => put_deliver_reply(into),
         Body::Nothing => Ok(()),
-        Body::Any(octets) => into.extend_from_slice(octets),
+        Body::Any(octets) => put_any_body(into, octets),
     }
 }
 

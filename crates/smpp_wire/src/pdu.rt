@@ -27,7 +27,10 @@ pub enum Body<'a> {
         address_range: &'a [u8],
     },
     /// bind_transceiver_resp (4.1.6).
-    BindReply { system_id: &'a [u8], tlvs: &'a [u8] },
+    BindReply {
+        system_id: &'a [u8],
+        tlvs: &'a [u8],
+    },
     /// submit_sm (4.4.1) and deliver_sm (4.6.1). `tlvs` are the octets of whole TLVs (3.2.4.1).
     Message {
         service_type: &'a [u8],
@@ -50,7 +53,9 @@ pub enum Body<'a> {
         tlvs: &'a [u8],
     },
     /// submit_sm_resp (4.4.2).
-    SubmitReply { message_id: &'a [u8] },
+    SubmitReply {
+        message_id: &'a [u8],
+    },
     /// deliver_sm_resp (4.6.2), whose message_id is empty.
     DeliverReply,
     /// A body without octets, where the command's row allows it.

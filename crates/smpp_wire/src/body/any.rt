@@ -7,6 +7,7 @@ ghost use Rattle.smpp_wire.specs.Reading.{any_body_at as any_body_front};
 
 use crate::Body;
 use exact_octets::{Alphabet, ReadFault, octets_at};
+use kn_base::{Memory, Octets};
 
 /// A body of `left` octets.
 #[tactic(auto, unfolding(crate::specs::Reading::any_body_at))]
@@ -16,4 +17,12 @@ pub(crate) fn any_body_at(octets: &[u8], left: usize) -> Result<(Body, &[u8]), R
 {
     let (body, rest) = octets_at(octets, left, Alphabet::Any)?;
     Ok((Body::Any(body), rest))
+}
+
+/// Puts a body last. After `Memory` nothing has changed.
+pub(crate) fn put_any_body(into: &mut Octets, body: &[u8]) -> Result<(), Memory>
+    ensures ok { OnOk result (into.new ≡ into.old ++ body.now) }
+    ensures err { OnErr result (into.new ≡ into.old) }
+{
+    into.extend_from_slice(body)
 }
