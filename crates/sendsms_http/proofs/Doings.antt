@@ -11,14 +11,14 @@ use Rattle.http_text.specs.Answer.{reply_text}
 use Rattle.http_text.specs.Head.{NeedsMore}
 use Rattle.http_text.specs.declared.answer.Answer.{Answer}
 use Rattle.http_text.specs.declared.answer.Answer.TheVariants.{OutOfMemory}
-use Rattle.kn_base.specs.Count.{Counts}
+use Rattle.kn_base.specs.Count.{Counts, Rose}
 use Rattle.kn_base.specs.Course.{Course, Fails, IsQuiet, Ends}
 use Rattle.kn_base.specs.Talk.{SaysAll, SaysFront}
 use Rattle.kn_base.specs.declared.memory.Memory.{Memory}
 use Rattle.sms_record.specs.declared.sms.Sms.{Sms}
 use Rattle.sendsms_http.specs.Session.{Exchange, text_of, IsExchange, AreAmong, times_in, deeds_in, Serves}
 use Rattle.sendsms_http.specs.SessionSteps.{IsEndOf, HearsOctets, HearsSo, SaysSo, SaysLost, Stands, Has, Waits, Hands, Answers, Stops, Says, Decides, Due, Wished}
-use Rattle.sendsms_http.specs.Visit.{IsPhase, IsVisit, FitsPhase, given_octets, Fits, IsPhaseOf}
+use Rattle.sendsms_http.specs.Visit.{IsNew, IsPhase, IsVisit, FitsPhase, given_octets, Fits, IsPhaseOf}
 use Rattle.sendsms_http.specs.declared.http_end.HttpEnd.{HttpEnd}
 use Rattle.sendsms_http.specs.declared.http_end.HttpEnd.TheVariants as end_is
 use Rattle.sendsms_http.specs.declared.visit.Phase.{Phase}
@@ -29,8 +29,9 @@ use Rattle.sendsms_http.specs.declared.visit.VisitGiven.TheVariants as given_is
 use Rattle.sendsms_http.specs.declared.visit.VisitWish.{VisitWish}
 use Rattle.sendsms_http.specs.declared.visit.VisitWish.TheVariants.{Listen, Submit, Say, Over}
 use Rattle.sendsms_http.proofs.Exchanges.{times_last, deeds_last}
-use Rattle.sendsms_http.proofs.SessionLemmas.{stands_heard, stands_ended, has_done}
+use Rattle.sendsms_http.proofs.SessionLemmas.{stands_none, stands_heard, stands_ended, has_none, has_done}
 use Rattle.sendsms_http.proofs.Endings.{serves_closed, serves_cut}
+use Rattle.sendsms_http.proofs.Looking.{some_more}
 
 -- ---- the phase, by the wish
 
@@ -93,7 +94,43 @@ saying (Submitting closing) answer close is = absurd is
 saying (Saying closing) answer close is = ap Saying is
 saying Done answer close is = absurd is
 
+-- the end by equal counts
+pub end_so : (end result : HttpEnd) (before now first last : ℕ) → before ≡ first → now ≡ last → IsEndOf end before now result → IsEndOf end first last result
+end_so end result before now first last a b is = subst (λ n. IsEndOf end first n result) b (subst (λ n. IsEndOf end n now result) a is)
+
+-- before the first step
+pub begins : (budget : ℕ) (visit : Visit) → IsNew budget visit → IsVisit visit × Fits visit given_is.Begin
+begins budget visit new = (
+  record {
+    within = omega (arith, new.taken);
+    phase = subst (λ phase. IsPhase phase visit) (sym new.phase) (new.kept, new.taken);
+  },
+  record {
+    phase = subst (λ phase. FitsPhase phase given_is.Begin) (sym new.phase) tt;
+    within = omega (arith, new.taken);
+  },
+)
+
+-- what fits once something was heard
+pub fits_then : (visit : Visit) (given : VisitGiven) (room : ℕ) (b c : Course) → IsPhaseOf Listen visit.phase → room + visit.taken ≡ visit.budget
+    → HearsSo room b (Ok given) c → Fits visit given
+fits_then visit given room b c is most hears = record {
+  phase = fits_heard visit.phase given room b c is hears;
+  within = omega (arith, heard_within given room b c hears, most);
+}
+
 module _ {S : Type 0} (leads : S → List Deed → S → Type 0) (faults : S → ℕ) (can_submit : S → Type 0) (settings : Settings) (store : S) (start : Course) (told : Option (List ℕ)) where
+  -- nothing was done yet
+  pub waits_first : (budget : ℕ) (visit : Visit) → IsNew budget visit → leads store [] store → can_submit store
+      → Waits leads faults can_submit settings store start told visit.kept visit.taken false start told store
+  waits_first budget visit new led ready = record {
+    kept = [];
+    stands = subst (λ left. Stands leads faults can_submit settings store start told [] left visit.taken false start) (sym new.kept)
+        (subst (λ n. Stands leads faults can_submit settings store start told [] [] n false start) (sym new.taken) (stands_none leads faults can_submit settings store start told));
+    has = has_none leads faults can_submit settings store start told led;
+    ready = ready;
+  }
+
   -- something was heard, or nothing
   pub heard : (visit : Visit) (given : VisitGiven) (room : ℕ) (b c : Course) (tells : Option (List ℕ)) (later : S)
       → Waits leads faults can_submit settings store start told visit.kept visit.taken false b tells later → NeedsMore visit.kept → HearsSo room b (Ok given) c
@@ -140,7 +177,7 @@ module _ {S : Type 0} (leads : S → List Deed → S → Type 0) (faults : S →
       → (visit : Visit) (time : ℕ) (parts : List Sms) (outcome : Result Reply Refusal) (b : Course) (tells : Option (List ℕ)) (later after : S)
       → Hands leads faults can_submit settings store start told visit.kept visit.taken b tells later time parts [] visit.phase
       → leads later (record { parts = parts; time = time; outcome = outcome } ∷ []) after
-      → (outcome ≡ Err refusal_is.Disk → IsFaultCounted (faults later) (faults after) (record { parts = parts; time = time; outcome = outcome }))
+      → (outcome ≡ Err refusal_is.Disk → Rose (faults later) (faults after))
       → (outcome ≢ Err refusal_is.Disk → faults after ≡ faults later) → faults later ≤ faults after → (outcome ≢ Err refusal_is.Disk → can_submit after)
       → Decides leads faults can_submit settings store start told visit b tells after outcome
   handed leads_on visit time parts outcome b tells later after h led disk spared kept ready =
@@ -157,7 +194,7 @@ module _ {S : Type 0} (leads : S → List Deed → S → Type 0) (faults : S →
           stands = h.stands;
           has = has_done leads faults can_submit settings store start told leads_on (times_in h.kept ++ time ∷ []) (deeds_in h.kept) deed tells later after
               (subst (λ deeds. Has leads faults can_submit settings store start told (times_in h.kept ++ time ∷ []) deeds tells later) (append-nil (deeds_in h.kept)) h.has)
-              led (λ is. disk is is) spared kept;
+              led disk spared kept;
         };
         ready = ready;
       }
@@ -173,7 +210,7 @@ module _ {S : Type 0} (leads : S → List Deed → S → Type 0) (faults : S →
       let s = stands_heard leads faults can_submit settings store start told w.kept visit.kept octets visit.taken b c w.stands more hears.1.2 hears.1.3 in
       let e : Exchange = record { octets = all; times = []; deeds = []; answer = OutOfMemory; close = true } in
       let is : IsExchange settings false e = inr (record {
-        cause = inr (record { some = (λ none. some visit.kept octets hears.1.0 none); answered = refl });
+        cause = inr (record { some = some_more visit.kept octets hears.1.0; answered = refl });
         no_time = refl;
         no_deed = refl;
         close = refl;
@@ -186,10 +223,6 @@ module _ {S : Type 0} (leads : S → List Deed → S → Type 0) (faults : S →
       let fits : visit.taken + length octets ≤ budget = omega (arith, within, hears.1.1) in
       by result e stands is has fits says refl refl
     where
-      some : (kept octets : List ℕ) → 0 < length octets → kept ++ octets ≡ [] → ⊥
-      some [] [] some none = absurd (omega (arith, some))
-      some [] (octet ∷ octets) some none = cc
-      some (octet ∷ kept) octets some none = cc
       taken : ℕ
       taken = visit.taken + length hears.0
       cut : (result : HttpEnd) (e : Exchange) → Stands leads faults can_submit settings store start told w.kept (e.octets ++ []) taken false c → IsExchange settings false e

@@ -85,25 +85,25 @@ Falls given (Submit time parts) old new = (to_do new < to_do old - length (given
 Falls given (Say answer close) old new = 4 * to_do new + 1 < 4 * (to_do old - length (given_octets given)) + rank given
 Falls given (Over end) old new = Unit {0}
 
-module _ (settings : Settings) (now : ℕ) (old new : Visit) (most : new.budget ≡ old.budget) where
+module _ (settings : Settings) (now : ℕ) (old new : Visit) (same : new.budget ≡ old.budget) where
   looked_falls : (given : VisitGiven) (wish : VisitWish) (octets : List ℕ) → LooksAt settings now octets new wish
       → length octets ≡ length old.kept + length (given_octets given) → 1 ≤ rank given → new.taken ≡ old.taken + length (given_octets given)
       → new.taken ≤ new.budget → Falls given wish old new
   looked_falls given Listen octets looks len ranks taken within =
       let cut = looks_cut settings now octets new Listen looks in
-      (omega (arith, cut, len, taken, within, most), ranks)
+      (omega (arith, cut, len, taken, within, same), ranks)
   looked_falls given (Submit time parts) octets looks len ranks taken within =
       let cut = looks_cut settings now octets new (Submit time parts) looks in
-      (omega (arith, cut, len, taken, within, most), ranks)
+      (omega (arith, cut, len, taken, within, same), ranks)
   looked_falls given (Say answer close) octets looks len ranks taken within =
       let cut = looks_cut settings now octets new (Say answer close) looks in
-      omega (arith, cut, len, taken, within, most, ranks)
+      omega (arith, cut, len, taken, within, same, ranks)
   looked_falls given (Over end) octets looks len ranks taken within = tt
 
   ended_falls : (wish : VisitWish) → IsSayOver wish (length old.kept) (length new.kept) → new.taken ≡ old.taken + 0 → Falls given_is.End wish old new
   ended_falls Listen cut taken = absurd cut
   ended_falls (Submit time parts) cut taken = absurd cut
-  ended_falls (Say answer close) cut taken = omega (arith, cut, taken, most)
+  ended_falls (Say answer close) cut taken = omega (arith, cut, taken, same)
   ended_falls (Over end) cut taken = tt
 
   over_falls : (given : VisitGiven) (wish : VisitWish) (end : HttpEnd) → wish ≡ Over end → Falls given wish old new
@@ -123,7 +123,7 @@ module _ (settings : Settings) (now : ℕ) (old new : Visit) (most : new.budget 
   answered_falls Fresh outcome wish is kept taken = absurd is
   answered_falls (Listening place) outcome wish is kept taken = absurd is
   answered_falls (Submitting close) outcome wish is kept taken =
-      subst (λ wish. Falls (given_is.Answered outcome) wish old new) (sym is) (omega (arith, ap length kept, taken, most))
+      subst (λ wish. Falls (given_is.Answered outcome) wish old new) (sym is) (omega (arith, ap length kept, taken, same))
   answered_falls (Saying close) outcome wish is kept taken = absurd is
   answered_falls Done outcome wish is kept taken = absurd is
 
@@ -141,13 +141,14 @@ module _ (settings : Settings) (now : ℕ) (old new : Visit) (most : new.budget 
 
   -- once something was heard, or nothing
   pub heard_falls : (given then : VisitGiven) (room : ℕ) (b c : Course) → Wishes settings now old given Listen new
-      → new.taken ≡ old.taken + length (given_octets given) → new.taken ≤ new.budget → HearsSo room b (Ok then) c → potential new then < potential old given
-  heard_falls given then room b c wishes taken within hears =
+      → new.taken ≡ old.taken + length (given_octets given) → new.taken ≤ new.budget → room + new.taken ≡ new.budget → HearsSo room b (Ok then) c
+      → potential new then < potential old given
+  heard_falls given then room b c wishes taken within most hears =
       let f = falls given Listen wishes taken within in by then hears f
     where
       by : (then : VisitGiven) → HearsSo room b (Ok then) c → Falls given Listen old new → potential new then < potential old given
       by given_is.Begin hears f = absurd hears
-      by (given_is.Heard octets) hears f = ?
+      by (given_is.Heard octets) hears f = omega (arith, f.0, f.1, hears.0, hears.1, most)
       by given_is.Quiet hears f = omega (arith, f.0, f.1)
       by given_is.End hears f = omega (arith, f.0, f.1)
       by given_is.Fault hears f = omega (arith, f.0, f.1)

@@ -1,37 +1,43 @@
 -- What is wished once octets were looked at.
-use Rattle.std.proofs.Common.{◌≡◌, ◌≢◌, ◌⊎◌, inl, inr, ℕ, ◌<◌, ◌≤◌, Bool, true, false, ◌||◌, List, [], ◌∷◌, ◌++◌, length, take, drop, All, Option, Some, None, Result, Ok, Err, refl, ap, sym, ◌∙◌, subst, arith, append_assoc, take-append-drop, if◌then◌else◌}
+use Rattle.std.proofs.Common.{◌≡◌, ◌≢◌, ◌⊎◌, inl, inr, ℕ, ◌<◌, ◌≤◌, ◌^◌, Bool, true, false, ◌||◌, List, [], ◌∷◌, ◌++◌, length, take, drop, All, Option, Some, None, Result, Ok, Err, refl, ap, sym, ◌∙◌, subst, arith, append_assoc, take-append-drop, if◌then◌else◌, IsTrue, ◌↔◌}
+use Rattle.std.proofs.lemmas.Bool.{false≢true}
 use Rattle.std.proofs.lemmas.List.{append-nil}
 use Rattle.std.proofs.lemmas.List.Elements.{All-head, All-tail}
 use Rattle.std.specs.List.{find}
 use Rattle.config_groups.specs.declared.settings.Settings.{Settings}
 use Rattle.config_groups.specs.declared.settings.user.User.{User}
-use Rattle.http_text.specs.Head.{head_limit, looked_at, Stands, NeverHas, NeedsMore}
+use Rattle.http_text.specs.Head.{head_limit, looked_at, Stands, NeverHas, NeedsMore, IsTooLong, IsWhole, IsReadAs}
 use Rattle.http_text.specs.OneHead.{IsHead}
 use Rattle.http_text.specs.declared.answer.Answer.{Answer}
 use Rattle.http_text.specs.declared.answer.Answer.TheVariants.{BadRequest, OutOfMemory}
 use Rattle.http_text.specs.declared.answer.spot.Spot.TheVariants as spot_is
 use Rattle.http_text.specs.declared.head.Head.{Head}
+use Rattle.http_text.specs.declared.head.read.HeadRead.{HeadRead}
+use Rattle.http_text.specs.declared.head.read.HeadRead.TheVariants as read_is
+use Rattle.sms_record.specs.Record.{IsSms}
 use Rattle.sms_record.specs.declared.sms.Sms.{Sms}
-use Rattle.sendsms_http.specs.Ranges.{IsUser}
+use Rattle.config_groups.specs.Ranges.{IsUser}
 use Rattle.sendsms_http.specs.Request.{asked}
 use Rattle.sendsms_http.specs.Session.{Exchange, ComesTo, RefusesOctets, WantsMemory, AnswersRequest, IsNoRequest, closes_always, closes}
 use Rattle.sendsms_http.specs.Users.{user_of}
-use Rattle.sendsms_http.specs.Visit.{Owes, IsAtEnd}
+use Rattle.sendsms_http.specs.Visit.{Asks, Owes, LooksAt, IsAtEnd}
+use Rattle.sendsms_http.specs.declared.visit.Phase.TheVariants.{Submitting}
 use Rattle.sendsms_http.specs.declared.form.pairs.Pair.{Pair}
 use Rattle.sendsms_http.specs.declared.visit.Visit.{Visit}
 use Rattle.sendsms_http.specs.declared.visit.VisitWish.{VisitWish}
 use Rattle.sendsms_http.specs.declared.visit.VisitWish.TheVariants.{Say}
+use Rattle.sendsms_http.proofs.Handing.{handed_alone}
 
 -- ---- users
 
 -- what was found is one of them
 found : {A : Type 0} (P : A → Type 0) (test : A → Bool) (xs : List A) (x : A) → All P xs → find test xs ≡ Some x → P x
 found P test [] x all is = cc
-found P test (y ∷ xs) x all is = by (test y) is
+found P test (y ∷ xs) x all is = by (test y) (found P test xs x (All-tail P y xs all)) is
   where
-    by : (b : Bool) → (if b then Some y else find test xs) ≡ Some x → P x
-    by true is = subst P (let e : y ≡ x = cc in e) (All-head P y xs all)
-    by false is = found P test xs x (All-tail P y xs all) is
+    by : (b : Bool) → (find test xs ≡ Some x → P x) → (if b then Some y else find test xs) ≡ Some x → P x
+    by true later is = subst P (let e : y ≡ x = cc in e) (All-head P y xs all)
+    by false later is = later is
 
 pub user_found : (users : List User) (given : List Pair) (user : User) → All IsUser users → Some user ≡ user_of users given → IsUser user
 user_found users given user all is = found IsUser _ users user all (sym is)
@@ -113,3 +119,57 @@ owes_refused settings now len octets head visit answer heard kept refusal =
       answers = refl;
       closes = refl;
     }
+
+-- a request whose parts are handed in
+pub asks : (settings : Settings) (now len : ℕ) (octets : List ℕ) (head : Head) (visit : Visit) (parts : List Sms) → IsHead (take len octets) head
+    → visit.kept ≡ drop len octets → visit.phase ≡ Submitting (head.close || head.body) → asked settings head now ≡ Ok parts
+    → now < 2 ^ 37 → length parts ≡ 1 → All IsSms parts → Asks settings now octets visit now parts
+asks settings now len octets head visit parts heard kept phase is below one sound = record {
+  front = take len octets;
+  head = head;
+  heard = heard;
+  cut = sym (take-append-drop len octets) ∙ ap (λ kept. take len octets ++ kept) (sym kept);
+  read_at = refl;
+  asks = is;
+  fits = handed_alone parts now below one sound;
+  phase = phase;
+}
+
+-- ---- what a reading of a head says
+
+pub whole_of : (octets kept : List ℕ) (read : HeadRead) (head : Head) (len : ℕ) → octets ≡ kept → read ≡ read_is.Whole head len → IsReadAs octets read
+    → IsWhole (looked_at kept) head len
+whole_of octets kept read head len same is reads = subst (λ all. IsWhole (looked_at all) head len) same (subst (IsReadAs octets) is reads)
+
+pub bad_of : (octets kept : List ℕ) (read : HeadRead) → octets ≡ kept → read ≡ read_is.Bad → IsReadAs octets read → IsNoRequest kept false
+bad_of octets kept read same is reads = inl (never kept (subst (λ all. NeverHas (looked_at all)) same (subst (IsReadAs octets) is reads)))
+
+pub long_of : (octets kept : List ℕ) (read : HeadRead) (seen : ℕ) → octets ≡ kept → read ≡ read_is.TooLong seen → IsReadAs octets read → IsNoRequest kept false
+long_of octets kept read seen same is reads =
+    let long : IsReadAs octets (read_is.TooLong seen) = subst (IsReadAs octets) is reads in
+    inr (subst IsTooLong same long.1)
+
+pub more_of : (octets kept : List ℕ) (read : HeadRead) → octets ≡ kept → read ≡ read_is.NeedMore → IsReadAs octets read → NeedsMore kept
+more_of octets kept read same is reads = subst NeedsMore same (subst (IsReadAs octets) is reads)
+
+-- the answer is owed that is wished to be said
+pub says_owed : (settings : Settings) (now : ℕ) (octets : List ℕ) (visit : Visit) (wish : VisitWish) (answer : Answer) (close : Bool) → wish ≡ Say answer close
+    → Owes settings false now octets visit answer close → LooksAt settings now octets visit wish
+says_owed settings now octets visit wish answer close is owes = subst (LooksAt settings now octets visit) (sym is) owes
+
+pub not_empty : (b : Bool) (octets : List ℕ) → (IsTrue b ↔ (octets ≡ [])) → b ≡ false → octets ≢ []
+not_empty b octets is empty none = false≢true (sym empty ∙ is.1 none)
+
+-- some octets more are some
+pub some_more : (kept octets : List ℕ) → 0 < length octets → kept ++ octets ≢ []
+some_more [] [] some none = absurd (omega (arith, some))
+some_more [] (octet ∷ octets) some none = cc
+some_more (octet ∷ kept) octets some none = cc
+
+-- the same with what the answer closes
+pub owes_refused_so : (settings : Settings) (now len : ℕ) (octets : List ℕ) (head : Head) (visit : Visit) (answer : Answer) (last close : Bool) → IsHead (take len octets) head
+    → visit.kept ≡ drop len octets → last ≡ (head.close || head.body) → close ≡ (last || closes_always answer)
+    → (answer ≡ OutOfMemory) ⊎ (asked settings head now ≡ Err answer) → Owes settings false now octets visit answer close
+owes_refused_so settings now len octets head visit answer last close heard kept is closing refusal =
+    subst (λ close. Owes settings false now octets visit answer close) (sym (closing ∙ ap (λ last. last || closes_always answer) is))
+    (owes_refused settings now len octets head visit answer heard kept refusal)

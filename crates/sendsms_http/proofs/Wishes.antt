@@ -21,7 +21,7 @@ use Rattle.sendsms_http.specs.Reply.{answer_of, is_failed}
 use Rattle.sendsms_http.specs.Request.{asked}
 use Rattle.sendsms_http.specs.Session.{Exchange, text_of, AnswersRequest, IsExchange, IsKept, ComesTo, closes_always, closes, heard_in, said_in, times_in, deeds_in, AreAmong, Serves}
 use Rattle.sendsms_http.specs.SessionSteps.{IsEndOf, Stands, Has, Waits, Hands, Answers, Stops, Says, Decides, Due, Wished}
-use Rattle.sendsms_http.specs.Visit.{FitsPhase, given_octets, Asks, Owes, LooksAt, IsAtEnd, IsSaid, IsAnswered, answered, Wishes}
+use Rattle.sendsms_http.specs.Visit.{IsVisit, FitsPhase, given_octets, Fits, IsNext, Asks, Owes, LooksAt, IsAtEnd, IsSaid, IsAnswered, answered, Wishes}
 use Rattle.sendsms_http.specs.declared.http_end.HttpEnd.{HttpEnd}
 use Rattle.sendsms_http.specs.declared.http_end.HttpEnd.TheVariants as end_is
 use Rattle.sendsms_http.specs.declared.visit.Phase.{Phase}
@@ -289,3 +289,11 @@ module _ {S : Type 0} (leads : S → List Deed → S → Type 0) (faults : S →
       accepted (Submitting close) fits = fits
       accepted (Saying close) fits = absurd fits
       accepted Done fits = absurd fits
+
+  -- the same by what is known of a step
+  pub step : (given : VisitGiven) (old visit : Visit) (budget now : ℕ) (wish : VisitWish) (b : Course) (tells tells_now : Option (List ℕ)) (later : S)
+      → Due leads faults can_submit settings store start told given old b tells later → Fits old given → old.budget ≡ budget → Adds now tells tells_now
+      → IsNext settings now old given wish visit → IsVisit visit → WishedHere budget wish visit b tells_now later
+  step given old visit budget now wish b tells tells_now later due fits most adds next is =
+      wished given old visit budget now wish b tells tells_now later due fits.phase adds next.wishes next.taken (next.budget ∙ most)
+      (subst (λ n. visit.taken ≤ n) (next.budget ∙ most) is.within)

@@ -1,5 +1,4 @@
 pub mod Form
-pub mod Ranges
 pub mod Reply
 pub mod Request
 pub mod Session

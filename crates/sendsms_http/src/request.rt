@@ -1,7 +1,7 @@
 //! What a request asks for: the parts of a message, or the answer that refuses it.
 
 ghost use Rattle.std.specs.Prelude.{◌≡◌, ◌<◌, ◌≤◌, ◌^◌, ◌⊎◌, [], ◌∷◌, IfOk, IfErr, All, length};
-ghost use Rattle.sendsms_http.specs.Ranges.{AreSettings, IsUser};
+ghost use Rattle.config_groups.specs.Ranges.{AreSettings, IsUser};
 ghost use Rattle.sms_record.specs.Record.{IsSms};
 ghost use Rattle.sendsms_http.specs.Form.{pairs};
 ghost use Rattle.sendsms_http.specs.Request as spec;
@@ -22,6 +22,7 @@ use std::alloc::Global;
 /// isn't GET; `BadRequest(Body)` where there is a body; `UnknownPath` where the path isn't `sendsms-url`; `Unauthorized` where
 /// no user has the name and the password of the query; `BadRequest(NotBuilt)` where its form isn't the five variables, once each and holding
 /// what they may. `OutOfMemory` may stand in the place of any answer.
+#[tactic(auto, unfolding(crate::specs::Request::asked))]
 pub fn asked(
     alloc: Global,
     settings: &Settings,

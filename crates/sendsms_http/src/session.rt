@@ -1,7 +1,7 @@
 //! One connection over HTTP: what its visit wishes is done.
 
 ghost use Rattle.std.specs.Prelude.{◌≡◌, ◌<◌, ◌≤◌, ◌^◌};
-ghost use Rattle.sendsms_http.specs.Ranges.{AreSettings};
+ghost use Rattle.config_groups.specs.Ranges.{AreSettings};
 ghost use Rattle.http_text.specs.Answer.{reply_text};
 ghost use Rattle.sendsms_http.specs.Session.{Serves};
 ghost use Rattle.sendsms_http.specs.SessionSteps as spec;

@@ -1,7 +1,7 @@
 //! One connection over HTTP by itself, without its peer and without the store.
 
 ghost use Rattle.std.specs.Prelude.{◌≡◌, ◌<◌, ◌≤◌, ◌+◌, ◌^◌, ◌++◌, [], true, false, drop, length, take};
-ghost use Rattle.sendsms_http.specs.Ranges.{AreSettings};
+ghost use Rattle.config_groups.specs.Ranges.{AreSettings};
 ghost use Rattle.http_text.specs.Head.{NeedsMore};
 ghost use Rattle.sendsms_http.specs.Visit as spec;
 

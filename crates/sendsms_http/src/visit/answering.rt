@@ -1,7 +1,7 @@
 //! A visit answers, or ends.
 
 ghost use Rattle.std.specs.Prelude.{◌≡◌, ◌<◌, ◌≤◌, ◌^◌, ℕ};
-ghost use Rattle.sendsms_http.specs.Ranges.{AreSettings};
+ghost use Rattle.config_groups.specs.Ranges.{AreSettings};
 ghost use Rattle.http_text.specs.Head.{NeedsMore};
 ghost use Rattle.sendsms_http.specs.Visit as spec;
 ghost use Rattle.sendsms_http.specs.VisitSteps as steps;

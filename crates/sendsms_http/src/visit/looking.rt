@@ -1,14 +1,14 @@
 //! A visit looks at what it keeps.
 
 ghost use Rattle.std.specs.Prelude.{◌≡◌, ◌<◌, ◌≤◌, ◌+◌, ◌^◌, ◌++◌, ℕ, [], drop, length, take, true};
-ghost use Rattle.sendsms_http.specs.Ranges.{AreSettings};
+ghost use Rattle.config_groups.specs.Ranges.{AreSettings};
 ghost use Rattle.http_text.specs.Head.{IsWhole, NeedsMore, looked_at};
 ghost use Rattle.http_text.specs.Place.{EndsAt};
 ghost use Rattle.sendsms_http.specs.Visit as spec;
 ghost use Rattle.sendsms_http.specs.VisitSteps as steps;
 
 use super::{Phase, Visit, VisitWish};
-use crate::reply::closes_always;
+use crate::reply::{closes, is_last};
 use crate::{HttpEnd, asked};
 use config_groups::Settings;
 use http_text::{Answer, Head, HeadRead, Place, Spot, read_more};
@@ -84,13 +84,13 @@ impl Visit {
         ensures goes { steps.Goes self.old.taken self.old result self.new }
     {
         self.drop_front(len);
-        let close = head.close || head.body;
+        let close = is_last(head);
         match asked(self.alloc, settings, head, now) {
             Ok(parts) => {
                 self.phase = Phase::Submitting { close };
                 VisitWish::Submit { time: now, parts }
             }
-            Err(answer) => self.say(answer, close || closes_always(answer)),
+            Err(answer) => self.say(answer, closes(close, answer)),
         }
     }
 
