@@ -27,31 +27,20 @@ impl<'a> Store<'a> {
             faults: 0,
         }
     }
-
-    /// The next answer.
-    fn next_answer(&mut self) -> Result<Reply, Refusal> {
-        let (name, behind) = cut_at(self.answers, b',');
-        if !behind.is_empty() {
-            self.answers = behind;
-        }
-        answer_of(name)
-    }
 }
 
-/// A message was accepted, and waits for a link or doesn't.
-fn accepted(queued: bool) -> Result<Reply, Refusal> {
-    Ok(Reply::Accepted {
-        first: 1,
-        count: 1,
-        queued,
-    })
+/// The answers behind the first one, which stays where it is the last.
+fn behind_first(answers: &[u8]) -> &[u8] {
+    let (_, behind) = cut_at(answers, b',');
+    if behind.is_empty() { answers } else { behind }
 }
 
-/// The answer of a name.
-fn answer_of(name: &[u8]) -> Result<Reply, Refusal> {
+/// What the first of the answers says: whether the message has to wait, or a refusal.
+fn first_of(answers: &[u8]) -> Result<bool, Refusal> {
+    let (name, _) = cut_at(answers, b',');
     match name {
-        b"queued" => accepted(true),
-        b"sent" => accepted(false),
+        b"queued" => Ok(true),
+        b"sent" => Ok(false),
         b"full" => Err(Refusal::Full { held: 9, limit: 9 }),
         b"no-route" => Err(Refusal::NoRoute { part: 0 }),
         b"memory" => Err(Refusal::Memory),
@@ -75,10 +64,19 @@ impl<'a> Acceptor for Store<'a> {
     fn submit(&mut self, _parts: Vec<Sms>, time: u64) -> Result<Reply, Refusal> {
         self.handed = raised(self.handed);
         self.time = time;
-        let answer = self.next_answer();
-        if matches!(answer, Err(Refusal::Disk)) {
-            self.faults = raised(self.faults);
+        let outcome = first_of(self.answers);
+        self.answers = behind_first(self.answers);
+        match outcome {
+            Ok(queued) => Ok(Reply::Accepted {
+                first: 1,
+                count: 1,
+                queued,
+            }),
+            Err(Refusal::Disk) => {
+                self.faults = raised(self.faults);
+                Err(Refusal::Disk)
+            }
+            Err(refusal) => Err(refusal),
         }
-        answer
     }
 }
