@@ -1,5 +1,5 @@
 -- The stages of the commands, put together.
-use Rattle.std.proofs.Common.{◌≡◌, ℕ, Bool, true, false, List, [], Option, Some, None, refl, ap, sym, ◌∙◌, subst}
+use Rattle.std.proofs.Common.{◌≡◌, ℕ, Bool, true, false, List, [], Option, Some, None, refl, ap, sym, ◌∙◌, arith, subst}
 use Rattle.std.specs.Prelude.{◌↔◌, option_map, IsSomeAnd, IfSome, Err}
 use Rattle.kn_base.specs.Course.{Course}
 use Rattle.config_groups.specs.declared.read.ConfigFault.TheVariants as config_is
@@ -29,7 +29,7 @@ module _
 
   -- want of memory before the shelf was asked
   pub not_begun : (name : List ℕ) → IsNotOpen files shelf_faults tells contents faults (Some name) old old stock None (Configuration config_is.Memory)
-  not_begun name = (record { read = by_told (files old); missed = λ is. absurd cc }, refl)
+  not_begun name = (record { read = by_told (files old); missed = λ is. absurd cc; kept = refl; not_fewer = omega arith }, refl)
     where
       by_told : (told : Option (List (List ℕ × List ℕ))) → IfSome told (λ files. Unit {0})
       by_told None = tt
