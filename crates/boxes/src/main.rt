@@ -1,7 +1,7 @@
 //! The program: reads the words, makes the machine's house and calls the command.
 #![tactic(auto)]
 
-use boxes_main::{ConfigurationFault, Failure, HostHouse, House, door, status, tell};
+use boxes_main::{Command, ConfigFault, Failure, HostHouse, House, door, read_command, show, status, tell};
 use kn_base::{Memory, Octets};
 use std::alloc::Global;
 use std::env;
@@ -29,14 +29,22 @@ fn read_words<R: Env + AllocGlobal>(rt: &R) -> Result<Vec<Octets>, Memory> {
     Ok(words)
 }
 
-/// Runs the command that the words name over a house, and gives the status. Where there is no memory for the words, it says so.
+/// Runs the command that the words name over a house, and gives the status. Words that name none are told how to name one.
+fn run_words<H: House>(alloc: Global, words: &[Octets], house: &mut H) -> u8 {
+    match read_command(words) {
+        Some(Command::Show { .. }) => show(alloc, words, house).status,
+        Some(Command::Door { .. }) | None => door(alloc, words, house).status,
+    }
+}
+
+/// Runs the command of the program's words. Where there is no memory for the words, it says so.
 fn run_in<R: Env + AllocGlobal, H: House>(rt: &R, house: &mut H) -> u8 {
     match read_words(rt) {
-        Ok(words) => door(rt.alloc(), &words, house).status,
+        Ok(words) => run_words(rt.alloc(), &words, house),
         Err(Memory) => {
-            let failure = Some(Failure::Configuration(ConfigurationFault::Memory));
-            tell(house.errors(), failure);
-            status(failure)
+            let failure = Some(Failure::Configuration(ConfigFault::Memory));
+            tell(house.errors(), &failure);
+            status(&failure)
         }
     }
 }

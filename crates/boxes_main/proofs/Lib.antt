@@ -1,3 +1,6 @@
-pub mod DoorLemmas
+pub mod Ending
+pub mod Gives
+pub mod OpeningLemmas
+pub mod Printed
 pub mod Sessions
 pub mod Under

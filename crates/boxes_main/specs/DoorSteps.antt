@@ -1,15 +1,15 @@
--- The steps of `door`: opening the store, and serving a session over it. No public clause cites these.
+-- The steps of `door`. No public clause cites these.
 use Rattle.std.specs.Prelude.{◌≡◌, ℕ, ◌<◌, Bool, List, [], Option, option_map, Vec, vec_len, vec_capacity}
 use Rattle.std.specs.declared.alloc.Global.{Global}
 use Rattle.kn_base.specs.Course.{Course}
+use Rattle.config_groups.specs.declared.settings.Settings.{Settings}
 use Rattle.store_disk.specs.Disk.{Areas}
 use Rattle.gate_store.specs.Store.{IsOpened}
 use Rattle.gate_store.specs.declared.store.Store.{Store}
-use Rattle.boxes_main.specs.Door.{Asks, IsConfigured, IsServed, ComesTo}
+use Rattle.boxes_main.specs.Door.{IsServed, ComesTo}
 use Rattle.boxes_main.specs.Failure.{status_of}
-use Rattle.boxes_main.specs.House.{Rooms, Stock, MakesOne, MakesFor, IsToldWord}
+use Rattle.boxes_main.specs.House.{Rooms, Stock, MakesFor, IsToldWord}
 use Rattle.boxes_main.specs.Worker.{Worker}
-use Rattle.boxes_main.specs.declared.configuration.TheConstants.{STORE_FILE}
 use Rattle.boxes_main.specs.declared.failure.Failure.{Failure}
 use Rattle.boxes_main.specs.declared.failure.Failure.TheVariants.{Session}
 use Rattle.boxes_main.specs.declared.session.SessionFault.{SessionFault}
@@ -22,36 +22,29 @@ pub record HasRoom {A B : Type 0} (ends : Vec A Global) (workers : Vec B Global)
   pub room_for_worker : vec_len workers < vec_capacity workers
 
 module _
-    {V S E D C : Type 0} (course : V → Course)
-    (files : S → Option (List (List ℕ × List ℕ))) (calls shelf_faults : S → ℕ)
+    {V S O E D C : Type 0} (course : V → Course)
     (tells : Bool) (contents : D → Areas) (faults : D → ℕ) (readings_of : C → Option (List ℕ)) where
-  -- The configuration was taken, and its store was opened on the one disk that was made.
-  pub record Opens (name : Option (List ℕ)) (old new : Rooms V S E) (before after : Stock) (store : Store D) : Type 0 where
-    pub others : new ≡ record old { shelf = new.shelf }
-    pub configured : IsConfigured files calls shelf_faults name old.shelf new.shelf
-    pub made : MakesOne before after
-    pub birth : ℕ
-    pub told : IsToldWord before.word birth
-    pub opened : IsOpened tells contents faults (before.disks STORE_FILE.now) 0 birth store
-
   -- A session was served over a store.
   pub record ServesOne
-      (old new : Rooms V S E) (before after : Stock) (store : Store D)
+      (settings : Settings) (old new : Rooms V S O E) (before after : Stock) (store : Store D)
       (status : ℕ) (failure : Option Failure) (disk : Option D) (workers : List (Worker C)) : Type 0 where
     pub others : new ≡ record old { visitor = new.visitor }
     pub stock : after ≡ before
     pub right : status ≡ status_of failure
     pub fault : Option SessionFault
     pub failed : failure ≡ option_map Session fault
-    pub served : (areas : Areas) (word : Option ℕ) (birth : ℕ) → IsToldWord word birth → IsOpened tells contents faults areas 0 birth store
-        → IsServed tells contents faults readings_of areas word (course old.visitor) (course new.visitor) workers disk fault
+    pub served : (areas : Areas) (word : Option ℕ) (birth : ℕ) → IsToldWord word birth
+        → IsOpened tells contents faults areas 0 settings.rules.outgoing birth store
+        → IsServed tells contents faults readings_of settings areas word (course old.visitor) (course new.visitor) workers disk fault
 
+module _
+    {V S O E D C : Type 0} (course : V → Course) (files : S → Option (List (List ℕ × List ℕ))) (shelf_faults : S → ℕ)
+    (tells : Bool) (contents : D → Areas) (faults : D → ℕ) (readings_of : C → Option (List ℕ)) where
   -- The command came to its end, but for what it says of a failure.
   pub record Ends
-      (name : Option (List ℕ)) (old new : Rooms V S E) (before after : Stock)
+      (name : Option (List ℕ)) (old new : Rooms V S O E) (before after : Stock)
       (status : ℕ) (failure : Option Failure) (disk : Option D) (workers : List (Worker C)) : Type 0 where
-    pub silent : new.errors ≡ old.errors
+    pub others : new ≡ record old { visitor = new.visitor; shelf = new.shelf }
     pub right : status ≡ status_of failure
-    pub asks : Asks files calls shelf_faults name old.shelf new.shelf failure
     pub made : MakesFor disk before after
-    pub comes_to : ComesTo tells contents faults readings_of course (before.disks STORE_FILE.now) before.word old.visitor new.visitor workers disk failure
+    pub comes_to : ComesTo course files shelf_faults tells contents faults readings_of name old new before workers disk failure

@@ -1,30 +1,46 @@
 -- The statuses of the program and the lines on standard error.
-use Rattle.std.specs.Prelude.{◌≡◌, ℕ, List, ◌∷◌, [], ◌++◌, codes, Option, Some, None}
+use Rattle.std.specs.Prelude.{◌≡◌, ℕ, List, ◌∷◌, [], ◌++◌, codes, decimal, Option, Some, None, Result}
 use Rattle.kn_base.specs.Course.{Course}
-use Rattle.kn_base.specs.Talk.{WritesAll}
-use Rattle.kn_base.specs.declared.writing.Wrote.{Wrote}
+use Rattle.config_groups.specs.declared.read.ConfigFault.TheVariants as config_is
 use Rattle.gate_store.specs.declared.store_fault.StoreFault.TheVariants as store_is
-use Rattle.boxes_main.specs.declared.configuration.ConfigurationFault.TheVariants as configuration_is
+use Rattle.boxes_main.specs.Giving.{GivesText}
 use Rattle.boxes_main.specs.declared.session.SessionFault.TheVariants as session_is
+use Rattle.boxes_main.specs.declared.printing.OutputFault.TheVariants as output_is
+use Rattle.boxes_main.specs.declared.giving.Cut.{Cut}
 use Rattle.boxes_main.specs.declared.failure.Failure.{Failure}
-use Rattle.boxes_main.specs.declared.failure.Failure.TheVariants.{Usage, Configuration, Store, Session}
+use Rattle.boxes_main.specs.declared.failure.Failure.TheVariants.{Usage, Configuration, NoStoreFile, Store, Session, Output}
 
 -- a text, ended by LF
 abbrev pub line : List ℕ → List ℕ
 line text = text ++ 10 ∷ []
 
+-- a line of a file of the configuration, both by their numbers
+abbrev pub place : (file number : ℕ) → List ℕ
+place file number = codes "boxes: configuration: file " ++ decimal file ++ codes " line " ++ decimal number
+
+-- a group of the configuration by its number, and the variable that it lacks
+abbrev pub lack : (group : ℕ) (variable : List ℕ) → List ℕ
+lack group variable = codes "boxes: configuration: group " ++ decimal group ++ codes " lacks " ++ variable
+
 -- the status of the program, and the line on standard error, by what went wrong
 abbrev pub row_of : Failure → ℕ × List ℕ
-row_of Usage = (2, line (codes "boxes: usage: boxes door CONF"))
-row_of (Configuration configuration_is.CannotRead) = (3, line (codes "boxes: configuration: cannot read"))
-row_of (Configuration configuration_is.NotBuilt) = (3, line (codes "boxes: configuration: not built"))
-row_of (Configuration configuration_is.Memory) = (9, line (codes "boxes: out of memory"))
+row_of Usage = (2, line (codes "boxes: usage: boxes door CONF | show CONF"))
+row_of (Configuration (config_is.Line file number)) = (3, line (place file number))
+row_of (Configuration (config_is.Value file number)) = (3, line (place file number))
+row_of (Configuration (config_is.Missing group variable)) = (3, line (lack group variable))
+row_of (Configuration config_is.TooDeep) = (3, line (codes "boxes: configuration: too deep"))
+row_of (Configuration config_is.NoFile) = (3, line (codes "boxes: configuration: cannot read"))
+row_of (Configuration config_is.Memory) = (9, line (codes "boxes: out of memory"))
+row_of NoStoreFile = (3, line (codes "boxes: configuration: no store-file"))
 row_of (Store store_is.Foreign) = (4, line (codes "boxes: store: foreign"))
 row_of (Store store_is.Disk) = (5, line (codes "boxes: store: disk fault"))
 row_of (Store store_is.Memory) = (9, line (codes "boxes: out of memory"))
 row_of (Session session_is.Disk) = (5, line (codes "boxes: store: disk fault"))
 row_of (Session session_is.Connection) = (6, line (codes "boxes: connection fault"))
+row_of (Session session_is.Budget) = (7, line (codes "boxes: budget spent"))
 row_of (Session session_is.Memory) = (9, line (codes "boxes: out of memory"))
+row_of (Output output_is.Failed) = (6, line (codes "boxes: connection fault"))
+row_of (Output output_is.Memory) = (9, line (codes "boxes: out of memory"))
 
 -- the status where something went wrong or nothing did
 abbrev pub status_of : Option Failure → ℕ
@@ -34,4 +50,4 @@ status_of (Some failure) = (row_of failure).0
 -- the line of what went wrong is given to a sink, or a front of it where the sink fails; where nothing went wrong, nothing is
 abbrev pub Tells : Option Failure → Course → Course → Type 0
 Tells None old new = new ≡ old
-Tells (Some failure) old new = (wrote : Wrote) × WritesAll (row_of failure).1 wrote old new
+Tells (Some failure) old new = (gave : Result Unit Cut) × GivesText (row_of failure).1 gave old new

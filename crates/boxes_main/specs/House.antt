@@ -4,10 +4,11 @@ use Rattle.std.specs.Bool.{OnTrue}
 use Rattle.kn_base.specs.Count.{next_count}
 use Rattle.store_disk.specs.Disk.{Areas}
 
--- what a house lends: the visitor on standard input and output, the files, and standard error
-pub record Rooms (V S E : Type 0) : Type 0 where
+-- what a house lends: the visitor on standard input and output, the files, standard output, and standard error
+pub record Rooms (V S O E : Type 0) : Type 0 where
   pub visitor : V
   pub shelf : S
+  pub output : O
   pub errors : E
 
 -- What a house hands out: what its disk under a name reads as, the birth of a store that isn't born, where that is told, and

@@ -1,9 +1,14 @@
 pub mod Command
-pub mod Configuration
 pub mod Disks
 pub mod Door
 pub mod DoorSteps
 pub mod Failure
+pub mod Giving
 pub mod House
+pub mod Lines
 pub mod MemHouse
+pub mod Opening
+pub mod OpeningSteps
+pub mod Show
+pub mod ShowSteps
 pub mod Worker

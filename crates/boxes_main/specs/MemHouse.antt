@@ -10,8 +10,8 @@ use Rattle.boxes_main.specs.Disks.{disk_under, areas_in}
 use Rattle.boxes_main.specs.declared.mem_house.MemHouse.{MemHouse}
 
 -- what it lends
-abbrev pub mem_rooms : MemHouse → Rooms MemPeer MemShelf MemPeer
-mem_rooms h = record { visitor = h.visitor; shelf = h.shelf; errors = h.errors }
+abbrev pub mem_rooms : MemHouse → Rooms MemPeer MemShelf MemPeer MemPeer
+mem_rooms h = record { visitor = h.visitor; shelf = h.shelf; output = h.output; errors = h.errors }
 
 -- what it hands out
 abbrev pub mem_stock : MemHouse → Stock

@@ -14,7 +14,7 @@ pub record Worker (C : Type 0) : Type 0 where
   pub ends : List SessionEnd
 
 -- what is left in a house with these types
-abbrev pub worker_of : {H V D C S E : Type 0} → WorkerEnd H V D C S E → Worker C
+abbrev pub worker_of : {H V D C S O E : Type 0} → WorkerEnd H V D C S O E → Worker C
 worker_of left = record { role = left.role; clock = left.clock; ends = left.ends }
 
 -- The worker of one session over HTTP: its clock, which was read so and no more where it tells that, and the session's end.

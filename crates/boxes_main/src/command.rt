@@ -1,9 +1,10 @@
 //! What the words of the program ask for, and the line that says which words there are.
 
 ghost use Rattle.std.specs.Prelude.{◌≡◌, ◌++◌, ◌∷◌, [], codes};
-ghost use Rattle.boxes_main.specs.Command.{configuration_of, configuration_in};
+ghost use Rattle.boxes_main.specs.Command.{configuration_of, door_in, show_in};
 
 pub(crate) mod door;
+pub(crate) mod show;
 
 use kn_base::Octets;
 
@@ -12,18 +13,24 @@ use kn_base::Octets;
 pub enum Command<'a> {
     /// Serves one connection over HTTP on standard input and output.
     Door { configuration: &'a Octets },
+    /// Prints what the store counts on standard output.
+    Show { configuration: &'a Octets },
 }
 
 /// What is said of words that name no command.
-pub const USAGE: &[u8] = b"boxes: usage: boxes door CONF\n";
+pub const USAGE: &[u8] = b"boxes: usage: boxes door CONF | show CONF\n";
 
-/// The command that the words name: `door` and the name of a configuration. Other words name none.
+/// The command that the words name: `door` or `show`, and the name of a configuration. Other words name none.
 pub fn read_command(words: &[Octets]) -> Option<Command>
-    ensures { configuration_in result ≡ configuration_of words.now }
+    ensures door { door_in result ≡ configuration_of (codes "door") words.now }
+    ensures show { show_in result ≡ configuration_of (codes "show") words.now }
 {
     match words {
         [command, configuration] if command.as_slice() == b"door".as_slice() => {
             Some(Command::Door { configuration })
+        }
+        [command, configuration] if command.as_slice() == b"show".as_slice() => {
+            Some(Command::Show { configuration })
         }
         _ => None,
     }

@@ -1,8 +1,13 @@
 //! What a command leaves behind.
 
+ghost use Rattle.std.specs.Prelude.{◌≡◌, [], Some};
+ghost use Rattle.boxes_main.specs.Failure.{status_of, Tells};
+
+use crate::failure::{status, tell};
 use crate::{Failure, House};
 use kn_base::Items;
 use sendsms_http::HttpEnd;
+use std::alloc::Global;
 
 /// What a worker did.
 #[derive(Clone, Copy)]
@@ -39,4 +44,29 @@ pub struct Ended<H: House> {
     pub disk: Option<H::D>,
     /// What the workers left.
     pub workers: Items<WorkerEnd<H>>,
+}
+
+/// What is left where no store stood open: the disk, where one was made.
+pub(crate) fn unserved<H: House>(alloc: Global, failure: Failure, disk: Option<H::D>) -> Ended<H>
+    ensures status { result.status ≡ status_of result.failure }
+    ensures failure { result.failure ≡ Some failure }
+    ensures disk { result.disk ≡ disk }
+    ensures workers { result.workers ≡ [] }
+{
+    let failure = Some(failure);
+    Ended {
+        status: status(&failure),
+        failure,
+        disk,
+        workers: Items::new(alloc),
+    }
+}
+
+/// Says on the house's standard error what went wrong.
+pub(crate) fn tell_end<H: House>(house: &mut H, failure: &Option<Failure>)
+    ensures rooms { H.rooms house.new ≡ record (H.rooms house.old) { errors = (H.rooms house.new).errors } }
+    ensures stock { H.stock house.new ≡ H.stock house.old }
+    ensures tells { Tells failure.now (H.Er.course (H.rooms house.old).errors) (H.Er.course (H.rooms house.new).errors) }
+{
+    tell(house.errors(), failure);
 }

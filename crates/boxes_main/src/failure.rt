@@ -1,24 +1,44 @@
 //! Why a command ends with another status than 0, and what it says of that.
 
-ghost use Rattle.std.specs.Prelude.{◌≡◌};
+ghost use Rattle.std.specs.Prelude.{◌≡◌, ◌++◌, ◌∷◌, []};
 ghost use Rattle.boxes_main.specs.Failure.{row_of, status_of, Tells};
+ghost use Rattle.boxes_main.specs.Giving.{GivesText};
+ghost use Rattle.boxes_main.specs.Lines.{text_in};
 
 use crate::command::USAGE;
-use crate::{ConfigurationFault, SessionFault};
+use crate::giving::{Cut, give, give_two};
+use crate::{OutputFault, SessionFault};
+use config_groups::ConfigFault;
 use gate_store::StoreFault;
-use kn_base::{Sink, write_all};
+use itoa::Buffer;
+use kn_base::{Octets, Sink};
 
 /// What went wrong first, by the layer that it went wrong in.
-#[derive(Clone, Copy)]
+#[derive(Drop)]
 pub enum Failure {
     /// The words name no command.
     Usage,
-    /// The configuration wasn't taken.
-    Configuration(ConfigurationFault),
+    /// The configuration is refused.
+    Configuration(ConfigFault),
+    /// The configuration names no store.
+    NoStoreFile,
     /// The store wasn't opened.
     Store(StoreFault),
     /// A session was served, and something failed in it.
     Session(SessionFault),
+    /// The output took not all that was printed.
+    Output(OutputFault),
+}
+
+/// The line for standard error.
+#[derive(Clone, Copy)]
+enum Line<'a> {
+    /// These words, with LF.
+    Text(&'static [u8]),
+    /// A line of a file of the configuration.
+    Place { file: u32, line: u64 },
+    /// A variable that a group lacks.
+    Lack { group: u64, variable: &'a Octets },
 }
 
 /// The line for want of memory.
@@ -27,31 +47,108 @@ const OUT_OF_MEMORY: &[u8] = b"boxes: out of memory\n";
 /// The line for a disk that failed.
 const DISK_FAULT: &[u8] = b"boxes: store: disk fault\n";
 
+/// The line for standard input or output that failed.
+const CONNECTION_FAULT: &[u8] = b"boxes: connection fault\n";
+
+/// The status that the program ends with, and the line for standard error, where the configuration is refused.
+fn configuration_row(fault: &ConfigFault) -> (u8, Line)
+    ensures { (result.0, text_in result.1) ≡ row_of (Failure.Configuration fault.now) }
+{
+    match fault {
+        ConfigFault::Line { file, line } => (
+            3,
+            Line::Place {
+                file: *file,
+                line: *line,
+            },
+        ),
+        ConfigFault::Value { file, line } => (
+            3,
+            Line::Place {
+                file: *file,
+                line: *line,
+            },
+        ),
+        ConfigFault::Missing { group, variable } => (
+            3,
+            Line::Lack {
+                group: *group,
+                variable,
+            },
+        ),
+        ConfigFault::TooDeep => (3, Line::Text(b"boxes: configuration: too deep\n")),
+        ConfigFault::NoFile => (3, Line::Text(b"boxes: configuration: cannot read\n")),
+        ConfigFault::Memory => (9, Line::Text(OUT_OF_MEMORY)),
+    }
+}
+
 /// The status that the program ends with, and the line for standard error.
-fn row(failure: Failure) -> (u8, &'static [u8])
-    ensures { (result.0, result.1.now) ≡ row_of failure }
+fn row(failure: &Failure) -> (u8, Line)
+    ensures { (result.0, text_in result.1) ≡ row_of failure.now }
 {
     match failure {
-        Failure::Usage => (2, USAGE),
-        Failure::Configuration(ConfigurationFault::CannotRead) => {
-            (3, b"boxes: configuration: cannot read\n")
+        Failure::Usage => (2, Line::Text(USAGE)),
+        Failure::Configuration(fault) => configuration_row(fault),
+        Failure::NoStoreFile => (3, Line::Text(b"boxes: configuration: no store-file\n")),
+        Failure::Store(StoreFault::Foreign) => (4, Line::Text(b"boxes: store: foreign\n")),
+        Failure::Store(StoreFault::Disk) => (5, Line::Text(DISK_FAULT)),
+        Failure::Store(StoreFault::Memory) => (9, Line::Text(OUT_OF_MEMORY)),
+        Failure::Session(SessionFault::Disk) => (5, Line::Text(DISK_FAULT)),
+        Failure::Session(SessionFault::Connection) => (6, Line::Text(CONNECTION_FAULT)),
+        Failure::Session(SessionFault::Budget) => (7, Line::Text(b"boxes: budget spent\n")),
+        Failure::Session(SessionFault::Memory) => (9, Line::Text(OUT_OF_MEMORY)),
+        Failure::Output(OutputFault::Failed) => (6, Line::Text(CONNECTION_FAULT)),
+        Failure::Output(OutputFault::Memory) => (9, Line::Text(OUT_OF_MEMORY)),
+    }
+}
+
+/// Gives a line in four parts.
+fn give_parts<S: Sink>(
+    errors: &mut S,
+    front: &[u8],
+    first: &[u8],
+    between: &[u8],
+    last: &[u8],
+) -> Result<(), Cut>
+    ensures { GivesText (front.now ++ first.now ++ between.now ++ last.now ++ 10 ∷ []) result (S.course errors.old) (S.course errors.new) }
+{
+    give_two(errors, front, first)?;
+    give_two(errors, between, last)?;
+    give(errors, b"\n")
+}
+
+/// Gives a line.
+fn give_line<S: Sink>(errors: &mut S, line: Line) -> Result<(), Cut>
+    ensures { GivesText (text_in line.entry) result (S.course errors.old) (S.course errors.new) }
+{
+    match line {
+        Line::Text(text) => give(errors, text),
+        Line::Place { file, line } => {
+            let (mut files, mut lines) = (Buffer::new(), Buffer::new());
+            give_parts(
+                errors,
+                b"boxes: configuration: file ",
+                files.format(file).as_bytes(),
+                b" line ",
+                lines.format(line).as_bytes(),
+            )
         }
-        Failure::Configuration(ConfigurationFault::NotBuilt) => {
-            (3, b"boxes: configuration: not built\n")
+        Line::Lack { group, variable } => {
+            let mut groups = Buffer::new();
+            give_parts(
+                errors,
+                b"boxes: configuration: group ",
+                groups.format(group).as_bytes(),
+                b" lacks ",
+                variable.as_slice(),
+            )
         }
-        Failure::Configuration(ConfigurationFault::Memory) => (9, OUT_OF_MEMORY),
-        Failure::Store(StoreFault::Foreign) => (4, b"boxes: store: foreign\n"),
-        Failure::Store(StoreFault::Disk) => (5, DISK_FAULT),
-        Failure::Store(StoreFault::Memory) => (9, OUT_OF_MEMORY),
-        Failure::Session(SessionFault::Disk) => (5, DISK_FAULT),
-        Failure::Session(SessionFault::Connection) => (6, b"boxes: connection fault\n"),
-        Failure::Session(SessionFault::Memory) => (9, OUT_OF_MEMORY),
     }
 }
 
 /// The status that the program ends with.
-pub fn status(failure: Option<Failure>) -> u8
-    ensures { result ≡ status_of failure }
+pub fn status(failure: &Option<Failure>) -> u8
+    ensures { result ≡ status_of failure.now }
 {
     match failure {
         None => 0,
@@ -59,11 +156,11 @@ pub fn status(failure: Option<Failure>) -> u8
     }
 }
 
-/// Says what went wrong. A sink that fails changes nothing else.
-pub fn tell<S: Sink>(errors: &mut S, failure: Option<Failure>)
-    ensures { Tells failure (S.course errors.old) (S.course errors.new) }
+/// Says what went wrong. A sink that fails changes nothing else. It takes no memory.
+pub fn tell<S: Sink>(errors: &mut S, failure: &Option<Failure>)
+    ensures { Tells failure.now (S.course errors.old) (S.course errors.new) }
 {
     if let Some(failure) = failure {
-        let _ = write_all(errors, row(failure).1);
+        let _ = give_line(errors, row(failure).1);
     }
 }

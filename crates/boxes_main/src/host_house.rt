@@ -7,12 +7,14 @@ use std::fs::{File, Files};
 use std::rt::Runtime;
 use store_disk::HostDisk;
 
-/// Standard input, output and error, the machine's clock, and the files of the folder that the program runs in.
+/// Standard input, output and error, the machine's clock, and the files of the folder that the program runs in. Its visitor and its
+/// output say what they are given on the same standard output.
 #[derive(Drop)]
 pub struct HostHouse<R: Runtime + Files<File = File> + Copy> {
     rt: R,
     visitor: HostPeer<R>,
     shelf: HostShelf<R>,
+    output: HostPeer<R>,
     errors: HostErrors<R>,
     made: u64,
 }
@@ -24,6 +26,7 @@ impl<R: Runtime + Files<File = File> + Copy> HostHouse<R> {
             rt,
             visitor: HostPeer::new(rt),
             shelf: HostShelf::new(rt),
+            output: HostPeer::new(rt),
             errors: HostErrors::new(rt),
             made: 0,
         }
@@ -39,14 +42,16 @@ impl<R: Runtime + Files<File = File> + Copy> House for HostHouse<R> {
 
     type S = HostShelf<R>;
 
+    type Ou = HostPeer<R>;
+
     type Er = HostErrors<R>;
 
     ghost use Rattle.std.specs.Prelude.{None, refl};
     ghost use Rattle.store_disk.specs.Disk.{no_areas};
 
-    ghost rooms = { λ h. record { visitor = h.visitor; shelf = h.shelf; errors = h.errors } };
+    ghost rooms = { λ h. record { visitor = h.visitor; shelf = h.shelf; output = h.output; errors = h.errors } };
 
-    ghost with_rooms = { λ h r. record h { visitor = r.visitor; shelf = r.shelf; errors = r.errors } };
+    ghost with_rooms = { λ h r. record h { visitor = r.visitor; shelf = r.shelf; output = r.output; errors = r.errors } };
 
     ghost stock = { λ h. record { disks = λ _. no_areas; word = None; made = h.made } };
 
@@ -60,6 +65,10 @@ impl<R: Runtime + Files<File = File> + Copy> House for HostHouse<R> {
 
     fn shelf(&mut self) -> &mut HostShelf<R> {
         &mut self.shelf
+    }
+
+    fn output(&mut self) -> &mut HostPeer<R> {
+        &mut self.output
     }
 
     fn errors(&mut self) -> &mut HostErrors<R> {

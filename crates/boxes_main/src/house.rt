@@ -8,8 +8,8 @@ use kn_base::{Clock, Memory, Peer, Shelf, Sink};
 use std::alloc::Global;
 use store_disk::Disk;
 
-/// All that a command takes of the outside: the connection on standard input and output, disks, clocks, files and
-/// standard error. No call opens a file.
+/// All that a command takes of the outside: the connection on standard input and output, disks, clocks, files, and the sinks on
+/// standard output and standard error. No call opens a file.
 pub trait House {
     /// Standard input and output.
     type V: Peer;
@@ -23,14 +23,17 @@ pub trait House {
     /// The files of a configuration.
     type S: Shelf;
 
+    /// Standard output.
+    type Ou: Sink;
+
     /// Standard error.
     type Er: Sink;
 
     /// What the house lends.
-    ghost rooms: { Self → Rooms Self.V Self.S Self.Er };
+    ghost rooms: { Self → Rooms Self.V Self.S Self.Ou Self.Er };
 
     /// The house with other rooms.
-    ghost with_rooms: { Self → Rooms Self.V Self.S Self.Er → Self };
+    ghost with_rooms: { Self → Rooms Self.V Self.S Self.Ou Self.Er → Self };
 
     /// What it hands out.
     ghost stock: { Self → Stock };
@@ -44,6 +47,11 @@ pub trait House {
     fn shelf(&mut self) -> &mut Self::S
         ensures* lends { sem 𝓛 (Lends Self.row Self.S.row self.entry result (λ shelf. with_rooms self.old (record (rooms self.old) { shelf = shelf }))) }
         ensures value { result.now ≡ (rooms self.old).shelf };
+
+    /// Lends standard output.
+    fn output(&mut self) -> &mut Self::Ou
+        ensures* lends { sem 𝓛 (Lends Self.row Self.Ou.row self.entry result (λ output. with_rooms self.old (record (rooms self.old) { output = output }))) }
+        ensures value { result.now ≡ (rooms self.old).output };
 
     /// Lends standard error.
     fn errors(&mut self) -> &mut Self::Er
@@ -69,7 +77,7 @@ pub trait House {
         ensures stock { stock self.new ≡ stock self.old }
         ensures word { IsToldWord (stock self.old).word result };
 
-    ghost rooms_with: { (h : Self) (r : Rooms Self.V Self.S Self.Er) → rooms (with_rooms h r) ≡ r };
+    ghost rooms_with: { (h : Self) (r : Rooms Self.V Self.S Self.Ou Self.Er) → rooms (with_rooms h r) ≡ r };
 
-    ghost stock_with: { (h : Self) (r : Rooms Self.V Self.S Self.Er) → stock (with_rooms h r) ≡ stock h };
+    ghost stock_with: { (h : Self) (r : Rooms Self.V Self.S Self.Ou Self.Er) → stock (with_rooms h r) ≡ stock h };
 }

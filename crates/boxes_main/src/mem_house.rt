@@ -17,6 +17,7 @@ pub struct MemHouse {
     alloc: Global,
     visitor: MemPeer,
     shelf: MemShelf,
+    output: MemPeer,
     errors: MemPeer,
     word: u64,
     clocks: Vec<MemClock>,
@@ -32,12 +33,13 @@ impl MemHouse {
         alloc: Global,
         visitor: MemPeer,
         shelf: MemShelf,
+        output: MemPeer,
         errors: MemPeer,
         word: u64,
         clocks: Vec<MemClock>,
         disks: Vec<(Octets, MemDisk)>,
     ) -> MemHouse
-        ensures rooms { mem_rooms result ≡ record { visitor = visitor; shelf = shelf; errors = errors } }
+        ensures rooms { mem_rooms result ≡ record { visitor = visitor; shelf = shelf; output = output; errors = errors } }
         ensures stock { mem_stock result ≡ record { disks = λ name. areas_in (disk_under name disks.items); word = Some word; made = 0 } }
         ensures clocks { clocks_of result ≡ clocks.items }
         ensures disks { disks_of result ≡ disks.items }
@@ -46,6 +48,7 @@ impl MemHouse {
             alloc,
             visitor,
             shelf,
+            output,
             errors,
             word,
             clocks,
@@ -54,11 +57,11 @@ impl MemHouse {
         }
     }
 
-    /// Gives the visitor and the sink for errors back.
-    pub fn into_peers(self) -> (MemPeer, MemPeer)
-        ensures { result ≡ ((mem_rooms self).visitor, (mem_rooms self).errors) }
+    /// Gives the visitor and the sinks for output and errors back.
+    pub fn into_peers(self) -> (MemPeer, MemPeer, MemPeer)
+        ensures { result ≡ ((mem_rooms self).visitor, (mem_rooms self).output, (mem_rooms self).errors) }
     {
-        (self.visitor, self.errors)
+        (self.visitor, self.output, self.errors)
     }
 }
 
@@ -103,6 +106,8 @@ impl House for MemHouse {
 
     type S = MemShelf;
 
+    type Ou = MemPeer;
+
     type Er = MemPeer;
 
     ghost use Rattle.std.specs.Prelude.{refl};
@@ -111,7 +116,7 @@ impl House for MemHouse {
 
     ghost rooms = { mem_rooms };
 
-    ghost with_rooms = { λ h r. record h { visitor = r.visitor; shelf = r.shelf; errors = r.errors } };
+    ghost with_rooms = { λ h r. record h { visitor = r.visitor; shelf = r.shelf; output = r.output; errors = r.errors } };
 
     ghost stock = { mem_stock };
 
@@ -125,6 +130,10 @@ impl House for MemHouse {
 
     fn shelf(&mut self) -> &mut MemShelf {
         &mut self.shelf
+    }
+
+    fn output(&mut self) -> &mut MemPeer {
+        &mut self.output
     }
 
     fn errors(&mut self) -> &mut MemPeer {

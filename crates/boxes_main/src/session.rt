@@ -1,25 +1,31 @@
 //! One session over an open store: it is served, and the store is closed.
 
 ghost use Rattle.std.specs.Prelude.{◌≡◌, [], ◌∷◌, Some, IfOk, map, option_map};
+ghost use Rattle.config_groups.specs.Ranges.{AreSettings};
 ghost use Rattle.gate_store.specs.Store.{IsOpen};
 ghost use Rattle.boxes_main.specs.Door.{fault_by};
 ghost use Rattle.boxes_main.specs.DoorSteps.{HasRoom, ServesOne};
 ghost use Rattle.boxes_main.specs.Worker.{worker_of};
 
 use crate::failure::status;
+use crate::opening::Opened;
 use crate::{Ended, Failure, House, Role, SessionEnd, WorkerEnd};
-use gate_store::Store;
 use kn_base::{Items, Memory};
 use sendsms_http::{HttpEnd, serve_http};
 use std::alloc::Global;
 
+/// How many octets of one connection are taken.
+const OCTETS_LIMIT: u64 = 1_048_576;
+
 /// What went wrong in a session.
 #[derive(Clone, Copy)]
 pub enum SessionFault {
-    /// A disk call failed in the commit.
+    /// A disk call failed in a commit.
     Disk,
     /// Standard input or output failed, or was quiet.
     Connection,
+    /// As many octets were taken as may be, and no end came.
+    Budget,
     /// There was no memory for hearing or saying, outside a request that was answered so.
     Memory,
 }
@@ -34,6 +40,7 @@ fn fault_of(broken: bool, end: HttpEnd) -> Option<SessionFault>
     match end {
         HttpEnd::End => None,
         HttpEnd::Fault | HttpEnd::Quiet => Some(SessionFault::Connection),
+        HttpEnd::Budget { .. } => Some(SessionFault::Budget),
         HttpEnd::Memory => Some(SessionFault::Memory),
     }
 }
@@ -84,21 +91,32 @@ fn leave<H: House>(room: Room<H>, clock: H::C, end: HttpEnd) -> Items<WorkerEnd<
 pub(crate) fn serve<H: House>(
     alloc: Global,
     house: &mut H,
-    store: Store<H::D>,
+    opened: Opened<H>,
     room: Room<H>,
 ) -> Ended<H>
-    requires open { IsOpen H.D.tells H.D.contents store }
+    requires open { IsOpen H.D.tells H.D.contents opened.store }
+    requires in_range { AreSettings opened.settings }
     requires room { HasRoom room.ends room.workers }
-    ensures { ServesOne H.V.course H.S.files H.S.calls H.S.faults H.D.tells H.D.contents H.D.faults H.C.readings
-        (H.rooms house.old) (H.rooms house.new) (H.stock house.old) (H.stock house.new) store
+    ensures { ServesOne H.V.course H.D.tells H.D.contents H.D.faults H.C.readings opened.settings
+        (H.rooms house.old) (H.rooms house.new) (H.stock house.old) (H.stock house.new) opened.store
         result.status result.failure result.disk (map worker_of result.workers) }
 {
-    let mut store = store;
+    let Opened {
+        settings,
+        mut store,
+    } = opened;
     let mut clock = house.clock();
-    let end = serve_http(alloc, &mut store, house.visitor(), &mut clock);
+    let end = serve_http(
+        alloc,
+        &settings,
+        &mut store,
+        house.visitor(),
+        &mut clock,
+        OCTETS_LIMIT,
+    );
     let failure = failure_of(store.is_broken(), end);
     Ended {
-        status: status(failure),
+        status: status(&failure),
         failure,
         disk: Some(store.close()),
         workers: leave(room, clock, end),

@@ -5,6 +5,7 @@
 mod alphabet;
 mod answer;
 mod conf;
+mod frame;
 mod head;
 mod record;
 mod request;
@@ -46,6 +47,8 @@ fn put_case(alloc: Global, kind: &[u8], text: &[u8], report: &mut Octets) -> Res
         record::put_entry(alloc, text, report)
     } else if kind == b"header".as_slice() {
         record::put_header(alloc, text, report)
+    } else if kind == b"frame".as_slice() {
+        frame::put_frame(alloc, text, report)
     } else {
         put_http(alloc, kind, text, report)
     }

@@ -1,12 +1,14 @@
 //! What a store of messages is to those that hand messages in.
 //!
-//! An `Acceptor` takes the parts of a message, and answers a `Reply` or a `Refusal`.
+//! An `Acceptor` takes the parts of a message, and answers a `Reply` or a `Refusal`. `Totals` is what it counts.
 //!
 //! The one contract: what was handed in and what was answered, in order, leads the store from what it was to what it is.
 #![tactic(auto)]
 
 mod acceptor;
 mod reply;
+mod totals;
 
 pub use acceptor::Acceptor;
 pub use reply::{Refusal, Reply};
+pub use totals::Totals;

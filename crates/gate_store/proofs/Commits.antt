@@ -1,17 +1,18 @@
 -- What deeds that lead from one store to another did, all together.
-use Rattle.std.proofs.Common.{◌≡◌, ℕ, Bool, true, false, List, [], ◌∷◌, ◌++◌, length, All, Result, Ok, Err, refl, ap, sym, ◌∙◌, append_assoc, subst}
+use Rattle.std.proofs.Common.{◌≡◌, ℕ, Bool, true, false, List, [], ◌∷◌, ◌++◌, length, min, All, Result, Ok, Err, refl, ap, sym, ◌∙◌, append_assoc, subst}
 use Rattle.std.proofs.lemmas.Bool.{false≢true}
 use Rattle.std.proofs.lemmas.List.{append-nil}
 use Rattle.std.proofs.lemmas.List.Elements.{All-nil, All-cons, All-head, All-tail}
-use Rattle.kn_base.specs.Count.{Rose}
+use Rattle.kn_base.specs.Count.{Rose, last_count}
 use Rattle.gate_model.specs.Acceptor.{Deed, IsSpared}
 use Rattle.gate_model.specs.declared.reply.Refusal.{Refusal}
 use Rattle.gate_model.specs.declared.reply.Refusal.TheVariants.{NoRoute, Full, Disk, Memory}
 use Rattle.gate_model.specs.declared.reply.Reply.{Reply}
 use Rattle.store_disk.specs.Disk.{Areas}
 use Rattle.sms_record.specs.declared.entry.accept.Accept.{Accept}
+use Rattle.gate_store.specs.Accepts.{messages}
 use Rattle.gate_store.specs.Deeds.{Does, Leads, IsReason, AreReasoned, CountsFault, is_by_disk, entries_of, done_of}
-use Rattle.gate_store.specs.Store.{IsStore, disk_in, is_store_broken}
+use Rattle.gate_store.specs.Store.{IsStore, disk_in, limit_in, is_store_broken}
 use Rattle.gate_store.specs.declared.store.Store.{Store}
 
 -- an outcome by the disk is its refusal
@@ -25,6 +26,14 @@ by_disk (Err Memory) is = absurd (false≢true is)
 -- another outcome isn't
 spared_by : (outcome : Result Reply Refusal) → is_by_disk outcome ≡ false → outcome ≡ Err Disk → ⊥
 spared_by outcome spared is = let P : Result Reply Refusal → Type 0 = λ x. is_by_disk x ≡ false in false≢true (sym (subst P is spared))
+
+-- an outcome that isn't by the disk, as a list of cases says it
+pub not_by_disk : (outcome : Result Reply Refusal) → (outcome ≡ Err Disk → ⊥) → is_by_disk outcome ≡ false
+not_by_disk (Ok reply) other = refl
+not_by_disk (Err (NoRoute part)) other = refl
+not_by_disk (Err (Full held limit)) other = refl
+not_by_disk (Err Disk) other = absurd (other refl)
+not_by_disk (Err Memory) other = refl
 
 -- a fact, by whether an outcome is by the disk
 by_outcome : {P : Type 0} (b : Bool) → (b ≡ true → P) → (b ≡ false → P) → P
@@ -43,14 +52,15 @@ module _ {D : Type 0} (tells : Bool) (contents : D → Areas) (faults : D → �
   none_broken a c (deed ∷ deeds) leads broken = absurd (false≢true (sym leads.1.whole ∙ broken))
 
   -- each outcome has its reason
-  pub reasoned : (a c : Store D) (deeds : List Deed) → Leads tells contents faults a deeds c
-      → (birth : ℕ) (accepts : List Accept) → IsStore tells contents a birth accepts → AreReasoned accepts deeds
-  reasoned a c [] leads birth accepts is = tt
-  reasoned a c (deed ∷ deeds) leads birth accepts is = (
-    subst (λ n. IsReason n (length deed.parts) deed.outcome) is.waiting leads.1.reason,
+  pub reasoned : (limit : ℕ) (a c : Store D) (deeds : List Deed) → Leads tells contents faults a deeds c → limit_in a ≡ limit
+      → (birth : ℕ) (accepts : List Accept) → IsStore tells contents a birth accepts → AreReasoned limit accepts deeds
+  reasoned limit a c [] leads is_limit birth accepts is = tt
+  reasoned limit a c (deed ∷ deeds) leads is_limit birth accepts is = (
+    subst (λ m. IsReason m (min (messages accepts) last_count) (length deed.parts) deed.outcome) is_limit
+        (subst (λ n. IsReason (limit_in a) n (length deed.parts) deed.outcome) is.waiting leads.1.reason),
     by_outcome (is_by_disk deed.outcome)
-        (λ is_disk. subst (λ ds. AreReasoned (accepts ++ entries_of deed) ds) (sym (none_broken leads.0 c deeds leads.2 (leads.1.broken ∙ is_disk)).0) tt)
-        (λ is_spared. reasoned leads.0 c deeds leads.2 birth (accepts ++ entries_of deed) (leads.1.gains is_spared birth accepts is)),
+        (λ is_disk. subst (λ ds. AreReasoned limit (accepts ++ entries_of deed) ds) (sym (none_broken leads.0 c deeds leads.2 (leads.1.broken ∙ is_disk)).0) tt)
+        (λ is_spared. reasoned limit leads.0 c deeds leads.2 (leads.1.limit ∙ is_limit) birth (accepts ++ entries_of deed) (leads.1.gains is_spared birth accepts is)),
   )
 
   -- where the store isn't broken behind the deeds, none was refused by the disk

@@ -73,17 +73,18 @@ left_opened before now birth b area payloads opens untouched stood = by_standing
     by_standing (born there stood_in payloads_there) is opens = inl (untouched (λ none. cc))
     by_standing (foreign stood_in at) is opens = absurd opens
 
-module _ {D : Type 0} (tells : Bool) (contents : D → Areas) (faults : D → ℕ) (disk : D) (birth : ℕ) (journal : Journal D) where
+module _ {D : Type 0} (tells : Bool) (contents : D → Areas) (faults : D → ℕ) (disk : D) (limit birth : ℕ) (journal : Journal D) where
   -- a journal that was opened, whose entries were loaded, is an opened store
   pub opened_by : OnTrue tells (OpensAs (stands (contents disk)) birth (birth_of journal) (area_of journal) (left journal))
-      → faults (disk_of journal) ≡ faults disk → (store : Store D) → Loads tells contents journal store
-      → IsOpened tells contents faults (contents disk) (faults disk) birth store
+      → faults (disk_of journal) ≡ faults disk → (store : Store D) → Loads tells contents limit journal store
+      → IsOpened tells contents faults (contents disk) (faults disk) limit birth store
   opened_by stood unfailed store loads = record {
     there = birth_of journal;
     accepts = loads.accepts;
     holds = loads.holds;
     stood = told_weaker tells _ _ (stands_for (stands (contents disk)) birth (birth_of journal) (area_of journal) (left journal) loads.accepts loads.handed) stood;
     born = told_weaker tells _ _ (born_with (stands (contents disk)) birth (birth_of journal) (area_of journal) (left journal)) stood;
+    limited = loads.limited;
     unfailed = ap faults loads.disk ∙ unfailed;
   }
 

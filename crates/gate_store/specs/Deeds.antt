@@ -10,7 +10,7 @@ use Rattle.gate_model.specs.declared.reply.Reply.TheVariants.{Accepted}
 use Rattle.store_disk.specs.Disk.{Areas}
 use Rattle.sms_record.specs.declared.entry.accept.Accept.{Accept}
 use Rattle.gate_store.specs.Accepts.{messages}
-use Rattle.gate_store.specs.Store.{IsStore, disk_in, waiting_in, is_store_broken, queue_limit}
+use Rattle.gate_store.specs.Store.{IsStore, disk_in, waiting_in, limit_in, is_store_broken}
 use Rattle.gate_store.specs.declared.store.Store.{Store}
 
 -- the disk failed
@@ -25,14 +25,15 @@ abbrev pub is_by_disk : {T : Type 0} → Result T Refusal → Bool
 is_by_disk (Ok x) = false
 is_by_disk (Err refusal) = is_disk refusal
 
--- What an outcome says of a queue in which so many messages wait and to which so many were handed in. There is room for them:
--- the outcome is the number of the first, for no link is up; or the disk failed, or memory was wanting. Or there is none.
-abbrev pub IsReason : ℕ → ℕ → Result Reply Refusal → Type 0
-IsReason waiting count (Ok reply) = (waiting + count ≤ queue_limit) × (reply ≡ Accepted (waiting + 1) count true)
-IsReason waiting count (Err (NoRoute part)) = ⊥
-IsReason waiting count (Err (Full held limit)) = (queue_limit < waiting + count) × (held ≡ waiting) × (limit ≡ queue_limit)
-IsReason waiting count (Err Disk) = waiting + count ≤ queue_limit
-IsReason waiting count (Err Memory) = waiting + count ≤ queue_limit
+-- What an outcome says of a queue in which so many messages may wait and so many do, and to which so many were handed in. There is
+-- room for them: the outcome is the number of the first, for no link is up; or the disk failed, or memory was wanting. Or there is
+-- none.
+abbrev pub IsReason : (limit waiting count : ℕ) → Result Reply Refusal → Type 0
+IsReason limit waiting count (Ok reply) = (waiting + count ≤ limit) × (reply ≡ Accepted (waiting + 1) count true)
+IsReason limit waiting count (Err (NoRoute part)) = ⊥
+IsReason limit waiting count (Err (Full held most)) = (limit < waiting + count) × (held ≡ waiting) × (most ≡ limit)
+IsReason limit waiting count (Err Disk) = waiting + count ≤ limit
+IsReason limit waiting count (Err Memory) = waiting + count ≤ limit
 
 -- the entries that a deed puts behind others
 abbrev pub entries_of : Deed → List Accept
@@ -43,11 +44,11 @@ abbrev pub done_of : List Deed → List Accept
 done_of [] = []
 done_of (deed ∷ deeds) = entries_of deed ++ done_of deeds
 
--- each outcome has its reason in the entries that were held before it
-abbrev pub AreReasoned : List Accept → List Deed → Type 0
-AreReasoned accepts [] = Unit {0}
-AreReasoned accepts (deed ∷ deeds) =
-    IsReason (min (messages accepts) last_count) (length deed.parts) deed.outcome × AreReasoned (accepts ++ entries_of deed) deeds
+-- each outcome has its reason in the entries that were held before it, where so many messages may wait
+abbrev pub AreReasoned : (limit : ℕ) → List Accept → List Deed → Type 0
+AreReasoned limit accepts [] = Unit {0}
+AreReasoned limit accepts (deed ∷ deeds) =
+    IsReason limit (min (messages accepts) last_count) (length deed.parts) deed.outcome × AreReasoned limit (accepts ++ entries_of deed) deeds
 
 -- where the disk failed, its count of faults rose, and else it stands still
 abbrev pub CountsFault : Bool → ℕ → ℕ → Type 0
@@ -59,7 +60,8 @@ module _ {D : Type 0} (tells : Bool) (contents : D → Areas) (faults : D → �
   -- done, and else keeps what it holds.
   pub record Does (old : Store D) (deed : Deed) (new : Store D) : Type 0 where
     pub whole : is_store_broken old ≡ false
-    pub reason : IsReason (waiting_in old) (length deed.parts) deed.outcome
+    pub reason : IsReason (limit_in old) (waiting_in old) (length deed.parts) deed.outcome
+    pub limit : limit_in new ≡ limit_in old
     pub gains : is_by_disk deed.outcome ≡ false
         → (birth : ℕ) (accepts : List Accept) → IsStore tells contents old birth accepts → IsStore tells contents new birth (accepts ++ entries_of deed)
     pub broken : is_store_broken new ≡ is_by_disk deed.outcome

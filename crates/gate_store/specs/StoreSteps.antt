@@ -11,7 +11,7 @@ use Rattle.store_journal.specs.declared.journal.Journal.{Journal}
 use Rattle.sms_record.specs.declared.entry.accept.Accept.{Accept}
 use Rattle.sms_record.specs.Entry.{IsAccept, accept_octets}
 use Rattle.gate_store.specs.Accepts.{entries}
-use Rattle.gate_store.specs.Store.{IsStore, disk_in}
+use Rattle.gate_store.specs.Store.{IsStore, disk_in, limit_in}
 use Rattle.gate_store.specs.declared.store.Store.{Store}
 use Rattle.gate_store.specs.declared.store_fault.StoreFault.{StoreFault}
 use Rattle.gate_store.specs.declared.store_fault.StoreFault.TheVariants.{Foreign, Disk, Memory}
@@ -22,9 +22,10 @@ CountsIn payload None = (accept : Accept) → IsAccept accept → payload ≡ ac
 CountsIn payload (Some count) = (accept : Accept) × IsAccept accept × (payload ≡ accept_octets accept) × (count ≡ length accept.parts)
 
 module _ {D : Type 0} (tells : Bool) (contents : D → Areas) where
-  -- What was left of a journal to hand out is the entries that the store holds, on the same disk.
-  pub record Loads (journal : Journal D) (store : Store D) : Type 0 where
+  -- What was left of a journal to hand out is the entries that the store holds, on the same disk; so many messages may wait.
+  pub record Loads (limit : ℕ) (journal : Journal D) (store : Store D) : Type 0 where
     pub accepts : List Accept
+    pub limited : limit_in store ≡ limit
     pub handed : left journal ≡ entries accepts
     pub holds : IsStore tells contents store (birth_of journal) accepts
     pub disk : disk_in store ≡ disk_of journal

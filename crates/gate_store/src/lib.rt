@@ -10,5 +10,5 @@
 mod store;
 mod store_fault;
 
-pub use store::{QUEUE_LIMIT, Store};
+pub use store::Store;
 pub use store_fault::StoreFault;

@@ -11,40 +11,41 @@ ghost use Rattle.gate_store.specs.Accepts.{StandsFor};
 ghost use Rattle.gate_store.specs.Deeds.{Does, CountsFault, is_by_disk};
 ghost use Rattle.gate_store.specs.Store.{IsStore, IsOpen, IsOpened, IsUnopened, disk_in, is_store_broken};
 ghost use Rattle.gate_store.specs.StoreSteps.{RefusesAppend};
+ghost use Rattle.gate_store.specs.Totals.{totals_of};
 
 mod entries;
 
 use crate::StoreFault;
 use entries::load;
-use kn_base::{Items, Memory, Octets};
-use gate_model::{Acceptor, Refusal, Reply};
+use gate_model::{Acceptor, Refusal, Reply, Totals};
+use kn_base::{Items, Memory, Octets, raised};
 use sms_record::Sms;
 use sms_record::entry::{Accept, write_accept};
 use std::alloc::Global;
 use store_disk::{Disk, DiskFailed};
 use store_journal::{Journal, OpenFault};
 
-/// How many messages may wait.
-pub const QUEUE_LIMIT: u64 = 1_000_000;
-
 /// Messages on a disk. None has ended yet, so all of them wait.
 pub struct Store<D: Disk> {
     alloc: Global,
     journal: Journal<D>,
+    /// How many messages may wait.
+    limit: u64,
     waiting: u64,
+    entries: u64,
 }
 
 impl<D: Disk> Store<D> {
-    /// Opens the store on a disk, and where the disk holds none yet, makes it with that birth.
+    /// Opens the store on a disk, and where the disk holds none yet, makes it with that birth. `limit` messages may wait in it.
     ///
     /// `Foreign` where what the disk holds is no store, `Disk` exactly where a disk call failed, `Memory` where there was none. Each
     /// fault gives the disk back; unless it is `Disk`, nothing that was stored is lost.
-    pub fn open(alloc: Global, disk: D, birth: u64) -> Result<Store<D>, (D, StoreFault)>
-        ensures ok { IfOk result (IsOpened D.tells D.contents D.faults (D.contents disk) (D.faults disk) birth) }
+    pub fn open(alloc: Global, disk: D, limit: u64, birth: u64) -> Result<Store<D>, (D, StoreFault)>
+        ensures ok { IfOk result (IsOpened D.tells D.contents D.faults (D.contents disk) (D.faults disk) limit birth) }
         ensures err { IfErr result (λ fault. IsUnopened D.tells D.contents D.faults (D.contents disk) (D.faults disk) birth fault.0 fault.1) }
     {
         match Journal::open(alloc, disk, birth) {
-            Ok(journal) => load(alloc, journal),
+            Ok(journal) => load(alloc, limit, journal),
             Err((disk, OpenFault::Foreign { .. })) => Err((disk, StoreFault::Foreign)),
             Err((disk, OpenFault::Disk)) => Err((disk, StoreFault::Disk)),
             Err((disk, OpenFault::Memory)) => Err((disk, StoreFault::Memory)),
@@ -58,9 +59,29 @@ impl<D: Disk> Store<D> {
         self.journal.is_broken()
     }
 
+    /// What it counts: of its entries, and of their messages.
+    pub fn totals(&self) -> Totals
+        ensures { (birth : ℕ) (accepts : List Accept) → IsStore D.tells D.contents self.now birth accepts → result ≡ totals_of accepts }
+    {
+        Totals {
+            accepted: self.waiting,
+            acked: 0,
+            rejected: 0,
+            waiting: self.waiting,
+            awaited: 0,
+            unmatched: 0,
+            jobs: 0,
+            called: 0,
+            dropped: 0,
+            arrived: 0,
+            arrivals: 0,
+            entries: self.entries,
+        }
+    }
+
     /// Records messages that were taken at one time as one entry on the disk.
     ///
-    /// `Full` where the messages that wait and these would pass `QUEUE_LIMIT`, `Disk` where a disk call failed, which breaks the
+    /// `Full` where the messages that wait and these are more than may wait, `Disk` where a disk call failed, which breaks the
     /// store, `Memory` where there was none. Only an entry that was accepted is kept, but for `Disk`, where that isn't known.
     pub fn accept(&mut self, accept: &Accept) -> Result<Reply, Refusal>
         requires kept { IsOpen D.tells D.contents self.old }
@@ -69,14 +90,15 @@ impl<D: Disk> Store<D> {
     {
         let held = self.waiting;
         let count = accept.parts.len() as u32;
-        if held > QUEUE_LIMIT - u64::from(count) {
+        if u64::from(count) > self.limit.saturating_sub(held) {
             return Err(Refusal::Full {
                 held,
-                limit: QUEUE_LIMIT,
+                limit: self.limit,
             });
         }
         self.append_entry(accept)?;
         self.waiting = held + u64::from(count);
+        self.entries = raised(self.entries);
         Ok(Reply::Accepted {
             first: held + 1,
             count,
@@ -118,7 +140,9 @@ impl<D: Disk> Store<D> {
         let Store {
             alloc: _,
             journal,
+            limit: _,
             waiting: _,
+            entries: _,
         } = self;
         journal.close()
     }

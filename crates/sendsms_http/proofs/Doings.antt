@@ -1,8 +1,8 @@
 -- What is so once a wish was done, by what came of it.
-use Rattle.std.proofs.Common.{◌≡◌, ◌≢◌, ◌⊎◌, inl, inr, ℕ, ◌+◌, ◌<◌, ◌≤◌, Bool, true, false, ◌||◌, List, [], ◌∷◌, ◌++◌, length, Option, Some, None, Result, Ok, Err, IfOk, refl, ap, sym, ◌∙◌, subst, arith, append_assoc}
+use Rattle.std.proofs.Common.{◌≡◌, ◌≢◌, inr, ℕ, ◌+◌, ◌<◌, ◌≤◌, Bool, true, false, List, [], ◌∷◌, ◌++◌, length, Option, Result, Ok, Err, IfOk, refl, ap, sym, ◌∙◌, subst, arith}
 use Rattle.std.proofs.lemmas.List.{append-nil}
 use Rattle.config_groups.specs.declared.settings.Settings.{Settings}
-use Rattle.gate_model.specs.Acceptor.{Deed, CountsFaults, IsFaultCounted, IsSpared}
+use Rattle.gate_model.specs.Acceptor.{Deed}
 use Rattle.gate_model.specs.Reply.{IsAccepted}
 use Rattle.gate_model.specs.declared.reply.Reply.{Reply}
 use Rattle.gate_model.specs.declared.reply.Refusal.{Refusal}
@@ -11,13 +11,13 @@ use Rattle.http_text.specs.Answer.{reply_text}
 use Rattle.http_text.specs.Head.{NeedsMore}
 use Rattle.http_text.specs.declared.answer.Answer.{Answer}
 use Rattle.http_text.specs.declared.answer.Answer.TheVariants.{OutOfMemory}
-use Rattle.kn_base.specs.Count.{Counts, Rose}
-use Rattle.kn_base.specs.Course.{Course, Fails, IsQuiet, Ends}
+use Rattle.kn_base.specs.Count.{Rose}
+use Rattle.kn_base.specs.Course.{Course}
 use Rattle.kn_base.specs.Talk.{SaysAll, SaysFront}
 use Rattle.kn_base.specs.declared.memory.Memory.{Memory}
 use Rattle.sms_record.specs.declared.sms.Sms.{Sms}
-use Rattle.sendsms_http.specs.Session.{Exchange, text_of, IsExchange, AreAmong, times_in, deeds_in, Serves}
-use Rattle.sendsms_http.specs.SessionSteps.{IsEndOf, HearsOctets, HearsSo, SaysSo, SaysLost, Stands, Has, Waits, Hands, Answers, Stops, Says, Decides, Due, Wished}
+use Rattle.sendsms_http.specs.Session.{Exchange, text_of, IsExchange, times_in, deeds_in, Serves}
+use Rattle.sendsms_http.specs.SessionSteps.{IsEndOf, HearsSo, SaysSo, SaysLost, Stands, Has, Waits, Hands, Answers, Decides, Due}
 use Rattle.sendsms_http.specs.Visit.{IsNew, IsPhase, IsVisit, FitsPhase, given_octets, Fits, IsPhaseOf}
 use Rattle.sendsms_http.specs.declared.http_end.HttpEnd.{HttpEnd}
 use Rattle.sendsms_http.specs.declared.http_end.HttpEnd.TheVariants as end_is
@@ -26,8 +26,7 @@ use Rattle.sendsms_http.specs.declared.visit.Phase.TheVariants.{Fresh, Listening
 use Rattle.sendsms_http.specs.declared.visit.Visit.{Visit}
 use Rattle.sendsms_http.specs.declared.visit.VisitGiven.{VisitGiven}
 use Rattle.sendsms_http.specs.declared.visit.VisitGiven.TheVariants as given_is
-use Rattle.sendsms_http.specs.declared.visit.VisitWish.{VisitWish}
-use Rattle.sendsms_http.specs.declared.visit.VisitWish.TheVariants.{Listen, Submit, Say, Over}
+use Rattle.sendsms_http.specs.declared.visit.VisitWish.TheVariants.{Listen, Say}
 use Rattle.sendsms_http.proofs.Exchanges.{times_last, deeds_last}
 use Rattle.sendsms_http.proofs.SessionLemmas.{stands_none, stands_heard, stands_ended, has_none, has_done}
 use Rattle.sendsms_http.proofs.Endings.{serves_closed, serves_cut}
@@ -225,6 +224,7 @@ module _ {S : Type 0} (leads : S → List Deed → S → Type 0) (faults : S →
     where
       taken : ℕ
       taken = visit.taken + length hears.0
+
       cut : (result : HttpEnd) (e : Exchange) → Stands leads faults can_submit settings store start told w.kept (e.octets ++ []) taken false c → IsExchange settings false e
           → Has leads faults can_submit settings store start told (times_in (w.kept ++ e ∷ [])) (deeds_in (w.kept ++ e ∷ [])) tells later
           → taken ≤ budget → ((gone : ℕ) × SaysFront (reply_text OutOfMemory true) gone c d × IsEndOf end_is.Fault start.counts.starved d.counts.starved result)
@@ -232,6 +232,7 @@ module _ {S : Type 0} (leads : S → List Deed → S → Type 0) (faults : S →
       cut result e stands is has fits says text =
           serves_cut leads faults can_submit settings store start told w.kept e [] taken budget false c d tells later result says.0 stands is has fits
           (subst (λ octets. SaysFront octets says.0 c d) (sym text) says.1) says.2
+
       by : (result : HttpEnd) (e : Exchange) → Stands leads faults can_submit settings store start told w.kept (e.octets ++ []) taken false c → IsExchange settings false e
           → Has leads faults can_submit settings store start told (times_in (w.kept ++ e ∷ [])) (deeds_in (w.kept ++ e ∷ [])) tells later
           → taken ≤ budget → SaysLost start.counts.starved c result d → text_of e ≡ reply_text OutOfMemory true → e.close ≡ true

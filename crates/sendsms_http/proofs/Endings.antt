@@ -1,15 +1,15 @@
 -- What a session came to, by its end.
-use Rattle.std.proofs.Common.{◌≡◌, ◌≢◌, ◌⊎◌, inl, inr, ℕ, ◌+◌, ◌<◌, ◌≤◌, Bool, true, false, ◌||◌, List, [], ◌∷◌, ◌++◌, length, take, All, Option, Some, None, refl, ap, sym, ◌∙◌, subst, arith, append_assoc}
+use Rattle.std.proofs.Common.{◌≡◌, ◌⊎◌, inl, inr, ℕ, ◌≤◌, Bool, true, false, ◌||◌, List, [], ◌∷◌, ◌++◌, length, take, Option, Some, None, refl, ap, sym, ◌∙◌, subst, arith, append_assoc}
 use Rattle.std.proofs.lemmas.List.{append-nil}
 use Rattle.config_groups.specs.declared.settings.Settings.{Settings}
-use Rattle.gate_model.specs.Acceptor.{Deed, CountsFaults}
+use Rattle.gate_model.specs.Acceptor.{Deed}
 use Rattle.http_text.specs.Head.{NeedsMore}
-use Rattle.kn_base.specs.Count.{Counts, CountsFailure, CountsQuiet, Rose}
+use Rattle.kn_base.specs.Count.{Counts, CountsFailure, Rose}
 use Rattle.kn_base.specs.Course.{Course, with_more, Fails, IsQuiet}
 use Rattle.kn_base.specs.Talk.{said_of, heard_of, SaysAll, SaysFront}
 use Rattle.kn_base.proofs.Talks.{said_of-append, heard_of-append, with_more-with_more}
-use Rattle.sendsms_http.specs.Session.{Exchange, text_of, IsExchange, IsKept, heard_in, said_in, times_in, deeds_in, IsCutShort, SaysLast, IsSilence, NoneFell, IsCaused, IsSpent, Talks, Serves}
-use Rattle.sendsms_http.specs.SessionSteps.{IsEndOf, Stands, Has, Waits, Stops}
+use Rattle.sendsms_http.specs.Session.{Exchange, text_of, IsExchange, heard_in, said_in, times_in, deeds_in, IsCutShort, SaysLast, IsSilence, NoneFell, IsCaused, IsSpent, Serves}
+use Rattle.sendsms_http.specs.SessionSteps.{IsEndOf, Stands, Has}
 use Rattle.sendsms_http.specs.declared.http_end.HttpEnd.{HttpEnd}
 use Rattle.sendsms_http.specs.declared.http_end.HttpEnd.TheVariants.{End, Fault, Quiet, Budget, Memory}
 use Rattle.sendsms_http.proofs.Exchanges.{heard_last, prompt_said}

@@ -1,15 +1,13 @@
 -- Exchanges one behind the other, and what was heard and said in turn.
-use Rattle.std.proofs.Common.{◌≡◌, ◌≢◌, ◌⊎◌, inl, inr, ℕ, List, [], ◌∷◌, ◌++◌, map, All, refl, ap, sym, ◌∙◌, subst, append_assoc}
+use Rattle.std.proofs.Common.{◌≡◌, ◌⊎◌, inl, inr, ℕ, List, [], ◌∷◌, ◌++◌, refl, ap, sym, ◌∙◌, subst}
 use Rattle.std.specs.List.{flat_map}
 use Rattle.std.proofs.lemmas.List.{append-nil}
 use Rattle.std.proofs.lemmas.Grind.{flat_map-append}
 use Rattle.config_groups.specs.declared.settings.Settings.{Settings}
-use Rattle.gate_model.specs.Acceptor.{Deed}
-use Rattle.http_text.specs.Head.{NeedsMore}
-use Rattle.kn_base.specs.Talk.{said_of, heard_of}
+use Rattle.kn_base.specs.Talk.{heard_of}
 use Rattle.kn_base.specs.declared.piece.Piece.{Piece}
 use Rattle.kn_base.specs.declared.piece.Piece.TheVariants.{Heard, Said}
-use Rattle.sendsms_http.specs.Session.{Exchange, text_of, IsKept, heard_in, said_in, times_in, deeds_in, AreAmong, IsUpToDate, IsPrompt}
+use Rattle.sendsms_http.specs.Session.{Exchange, text_of, heard_in, said_in, times_in, deeds_in, AreAmong, IsUpToDate, IsPrompt}
 
 -- ---- one exchange more
 

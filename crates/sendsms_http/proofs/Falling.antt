@@ -1,5 +1,5 @@
 -- A session ends: what is still to be done falls at each step.
-use Rattle.std.proofs.Common.{◌≡◌, ◌≢◌, ◌⊎◌, inl, inr, ℕ, ◌+◌, ◌*◌, ◌-◌, ◌<◌, ◌≤◌, Bool, true, false, List, [], ◌∷◌, ◌++◌, length, Vec, Result, Ok, Err, refl, ap, sym, ◌∙◌, subst, arith, length-append}
+use Rattle.std.proofs.Common.{◌≡◌, ◌≢◌, inl, inr, ℕ, ◌+◌, ◌*◌, ◌-◌, ◌<◌, ◌≤◌, Bool, true, false, List, [], ◌∷◌, ◌++◌, length, Vec, Result, Ok, refl, ap, sym, subst, arith, length-append}
 use Rattle.std.specs.declared.alloc.Global.{Global}
 use Rattle.config_groups.specs.declared.settings.Settings.{Settings}
 use Rattle.http_text.specs.declared.answer.Answer.{Answer}
@@ -10,7 +10,7 @@ use Rattle.gate_model.specs.declared.reply.Reply.{Reply}
 use Rattle.gate_model.specs.declared.reply.Refusal.{Refusal}
 use Rattle.sendsms_http.specs.Session.{Exchange, IsExchange}
 use Rattle.sendsms_http.specs.SessionSteps.{HearsSo, SaysSo, rank, potential}
-use Rattle.sendsms_http.specs.Visit.{FitsPhase, given_octets, IsPhaseOf, Asks, Owes, LooksAt, IsAtEnd, IsSaid, IsAnswered, answered, Wishes, IsNext}
+use Rattle.sendsms_http.specs.Visit.{given_octets, Asks, Owes, LooksAt, IsAtEnd, IsSaid, IsAnswered, Wishes}
 use Rattle.sendsms_http.specs.declared.http_end.HttpEnd.{HttpEnd}
 use Rattle.sendsms_http.specs.declared.visit.Phase.{Phase}
 use Rattle.sendsms_http.specs.declared.visit.Phase.TheVariants.{Fresh, Listening, Submitting, Saying, Done}

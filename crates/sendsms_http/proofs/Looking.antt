@@ -1,5 +1,5 @@
 -- What is wished once octets were looked at.
-use Rattle.std.proofs.Common.{◌≡◌, ◌≢◌, ◌⊎◌, inl, inr, ℕ, ◌<◌, ◌≤◌, ◌^◌, Bool, true, false, ◌||◌, List, [], ◌∷◌, ◌++◌, length, take, drop, All, Option, Some, None, Result, Ok, Err, refl, ap, sym, ◌∙◌, subst, arith, append_assoc, take-append-drop, if◌then◌else◌, IsTrue, ◌↔◌}
+use Rattle.std.proofs.Common.{◌≡◌, ◌≢◌, ◌⊎◌, inl, inr, ℕ, ◌<◌, ◌^◌, Bool, true, false, ◌||◌, List, [], ◌∷◌, ◌++◌, length, take, drop, All, Some, Result, Ok, Err, refl, ap, sym, ◌∙◌, subst, arith, append_assoc, take-append-drop, if◌then◌else◌, IsTrue, ◌↔◌}
 use Rattle.std.proofs.lemmas.Bool.{false≢true}
 use Rattle.std.proofs.lemmas.List.{append-nil}
 use Rattle.std.proofs.lemmas.List.Elements.{All-head, All-tail}
@@ -18,7 +18,7 @@ use Rattle.sms_record.specs.Record.{IsSms}
 use Rattle.sms_record.specs.declared.sms.Sms.{Sms}
 use Rattle.config_groups.specs.Ranges.{IsUser}
 use Rattle.sendsms_http.specs.Request.{asked}
-use Rattle.sendsms_http.specs.Session.{Exchange, ComesTo, RefusesOctets, WantsMemory, AnswersRequest, IsNoRequest, closes_always, closes}
+use Rattle.sendsms_http.specs.Session.{Exchange, ComesTo, RefusesOctets, WantsMemory, AnswersRequest, IsNoRequest, closes_always}
 use Rattle.sendsms_http.specs.Users.{user_of}
 use Rattle.sendsms_http.specs.Visit.{Asks, Owes, LooksAt, IsAtEnd}
 use Rattle.sendsms_http.specs.declared.visit.Phase.TheVariants.{Submitting}

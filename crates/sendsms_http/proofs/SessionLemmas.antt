@@ -1,24 +1,17 @@
 -- What a session did so far, after each step.
-use Rattle.std.proofs.Common.{◌≡◌, ◌≢◌, ◌⊎◌, inl, inr, ℕ, ◌+◌, ◌<◌, ◌≤◌, Bool, true, false, ◌||◌, List, [], ◌∷◌, ◌++◌, length, All, Option, Some, None, Result, Ok, Err, IfOk, refl, ap, sym, ◌∙◌, subst, arith, append_assoc, length-append}
-use Rattle.std.proofs.lemmas.Bool.{false≢true}
+use Rattle.std.proofs.Common.{◌≡◌, ℕ, ◌+◌, ◌≤◌, Bool, true, false, List, [], ◌∷◌, ◌++◌, length, All, Option, Some, None, refl, ap, sym, ◌∙◌, subst, arith, append_assoc, length-append}
 use Rattle.std.proofs.lemmas.List.{append-nil}
 use Rattle.std.proofs.lemmas.List.Elements.{All-nil, All-cons, All-append, All-head, All-tail, All-weaker}
 use Rattle.config_groups.specs.declared.settings.Settings.{Settings}
 use Rattle.gate_model.specs.Acceptor.{Deed, CountsFaults, IsFaultCounted, IsSpared}
-use Rattle.gate_model.specs.Reply.{IsAccepted}
-use Rattle.gate_model.specs.declared.reply.Reply.{Reply}
-use Rattle.gate_model.specs.declared.reply.Refusal.{Refusal}
-use Rattle.gate_model.specs.declared.reply.Refusal.TheVariants as refusal_is
-use Rattle.http_text.specs.Answer.{reply_text}
 use Rattle.http_text.specs.Head.{NeedsMore}
 use Rattle.kn_base.specs.Clock.{Adds}
 use Rattle.kn_base.specs.Count.{Counts}
 use Rattle.kn_base.specs.Course.{Course, with_more, Ends}
 use Rattle.kn_base.specs.Talk.{said_of, heard_of, SaysAll}
-use Rattle.kn_base.specs.declared.piece.Piece.{Piece}
-use Rattle.kn_base.specs.declared.piece.Piece.TheVariants.{Heard, Said}
+use Rattle.kn_base.specs.declared.piece.Piece.TheVariants.{Heard}
 use Rattle.kn_base.proofs.Talks.{said_of-append, heard_of-append, with_more-nil, with_more-with_more}
-use Rattle.sendsms_http.specs.Session.{Exchange, text_of, IsExchange, IsKept, heard_in, said_in, times_in, deeds_in, AreAmong, AddsAll}
+use Rattle.sendsms_http.specs.Session.{Exchange, text_of, IsKept, heard_in, said_in, AreAmong, AddsAll}
 use Rattle.sendsms_http.specs.SessionSteps.{Stands, Has}
 use Rattle.sendsms_http.proofs.Exchanges.{heard_last, said_last, among_more, prompt_none, prompt_said, prompt_heard}
 
@@ -164,6 +157,7 @@ module _ {S : Type 0} (leads : S → List Deed → S → Type 0) (faults : S →
       All-front : (xs : List Deed) → All IsSpared (xs ++ deed ∷ []) → All IsSpared xs
       All-front [] all = All-nil IsSpared
       All-front (x ∷ xs) all = All-cons IsSpared x xs (All-head IsSpared x (xs ++ deed ∷ []) all) (All-front xs (All-tail IsSpared x (xs ++ deed ∷ []) all))
+
       All-back : (xs : List Deed) → All IsSpared (xs ++ deed ∷ []) → All IsSpared (deed ∷ [])
       All-back [] all = all
       All-back (x ∷ xs) all = All-back xs (All-tail IsSpared x (xs ++ deed ∷ []) all)

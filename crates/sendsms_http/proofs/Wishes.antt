@@ -1,9 +1,9 @@
 -- What is so once the visit wishes something, by what it was given.
-use Rattle.std.proofs.Common.{◌≡◌, ◌≢◌, ◌⊎◌, inl, inr, ℕ, ◌+◌, ◌<◌, ◌≤◌, Bool, true, false, ◌||◌, List, [], ◌∷◌, ◌++◌, length, All, Option, Some, None, Result, Ok, Err, IfOk, refl, ap, sym, ◌∙◌, subst, arith, append_assoc}
+use Rattle.std.proofs.Common.{◌≡◌, ◌≢◌, inl, inr, ℕ, ◌+◌, ◌≤◌, Bool, true, false, ◌||◌, List, [], ◌∷◌, ◌++◌, length, Option, Result, Ok, Err, IfOk, refl, ap, sym, ◌∙◌, subst, arith}
 use Rattle.std.proofs.lemmas.Bool.{false≢true}
 use Rattle.std.proofs.lemmas.List.{append-nil}
 use Rattle.config_groups.specs.declared.settings.Settings.{Settings}
-use Rattle.gate_model.specs.Acceptor.{Deed, CountsFaults}
+use Rattle.gate_model.specs.Acceptor.{Deed}
 use Rattle.gate_model.specs.Reply.{IsAccepted}
 use Rattle.gate_model.specs.declared.reply.Reply.{Reply}
 use Rattle.gate_model.specs.declared.reply.Refusal.{Refusal}
@@ -13,15 +13,14 @@ use Rattle.http_text.specs.Head.{NeedsMore}
 use Rattle.http_text.specs.declared.answer.Answer.{Answer}
 use Rattle.http_text.specs.declared.head.Head.{Head}
 use Rattle.kn_base.specs.Clock.{Adds}
-use Rattle.kn_base.specs.Count.{Counts}
-use Rattle.kn_base.specs.Course.{Course, Fails, IsQuiet}
+use Rattle.kn_base.specs.Course.{Course}
 use Rattle.kn_base.specs.Talk.{SaysAll, SaysFront}
 use Rattle.sms_record.specs.declared.sms.Sms.{Sms}
 use Rattle.sendsms_http.specs.Reply.{answer_of, is_failed}
 use Rattle.sendsms_http.specs.Request.{asked}
-use Rattle.sendsms_http.specs.Session.{Exchange, text_of, AnswersRequest, IsExchange, IsKept, ComesTo, closes_always, closes, heard_in, said_in, times_in, deeds_in, AreAmong, Serves}
-use Rattle.sendsms_http.specs.SessionSteps.{IsEndOf, Stands, Has, Waits, Hands, Answers, Stops, Says, Decides, Due, Wished}
-use Rattle.sendsms_http.specs.Visit.{IsVisit, FitsPhase, given_octets, Fits, IsNext, Asks, Owes, LooksAt, IsAtEnd, IsSaid, IsAnswered, answered, Wishes}
+use Rattle.sendsms_http.specs.Session.{Exchange, text_of, AnswersRequest, IsExchange, IsKept, ComesTo, closes_always, times_in, deeds_in, AreAmong, Serves}
+use Rattle.sendsms_http.specs.SessionSteps.{IsEndOf, Stands, Has, Waits, Answers, Says, Decides, Due, Wished}
+use Rattle.sendsms_http.specs.Visit.{IsVisit, FitsPhase, given_octets, Fits, IsNext, Owes, LooksAt, IsAtEnd, IsSaid, IsAnswered, answered, Wishes}
 use Rattle.sendsms_http.specs.declared.http_end.HttpEnd.{HttpEnd}
 use Rattle.sendsms_http.specs.declared.http_end.HttpEnd.TheVariants as end_is
 use Rattle.sendsms_http.specs.declared.visit.Phase.{Phase}

@@ -1,8 +1,7 @@
 -- The steps of a session: what was done so far, and what is due, by what the visit is given next. No public clause cites these.
-use Rattle.std.specs.Prelude.{◌≡◌, ◌≢◌, ◌⊎◌, ℕ, ◌+◌, ◌*◌, ◌-◌, ◌<◌, ◌≤◌, Bool, true, false, ◌||◌, List, [], ◌∷◌, ◌++◌, length, All, Option, Result, Ok, Err, ⊤}
+use Rattle.std.specs.Prelude.{◌≡◌, ◌≢◌, ℕ, ◌+◌, ◌*◌, ◌-◌, ◌<◌, ◌≤◌, Bool, true, false, ◌||◌, List, [], ◌∷◌, ◌++◌, length, All, Option, Result, Ok, Err}
 use Rattle.config_groups.specs.declared.settings.Settings.{Settings}
 use Rattle.gate_model.specs.Acceptor.{Deed, CountsFaults, MayBeHanded}
-use Rattle.gate_model.specs.Reply.{IsAccepted}
 use Rattle.gate_model.specs.declared.reply.Reply.{Reply}
 use Rattle.gate_model.specs.declared.reply.Refusal.{Refusal}
 use Rattle.gate_model.specs.declared.reply.Refusal.TheVariants as refusal_is
@@ -13,15 +12,15 @@ use Rattle.http_text.specs.declared.answer.Answer.{Answer}
 use Rattle.http_text.specs.declared.answer.Answer.TheVariants.{OutOfMemory}
 use Rattle.http_text.specs.declared.head.Head.{Head}
 use Rattle.kn_base.specs.Count.{Rose}
-use Rattle.kn_base.specs.Course.{Course, with_more, Hears, IsQuiet, Fails, Ends}
+use Rattle.kn_base.specs.Course.{Course, with_more, IsQuiet, Fails, Ends}
 use Rattle.kn_base.specs.Talk.{said_of, heard_of, SaysAll, SaysFront}
 use Rattle.kn_base.specs.declared.memory.Memory.{Memory}
 use Rattle.kn_base.specs.declared.piece.Piece.{Piece}
 use Rattle.kn_base.specs.declared.piece.Piece.TheVariants as piece_is
 use Rattle.sms_record.specs.declared.sms.Sms.{Sms}
 use Rattle.sendsms_http.specs.Request.{asked}
-use Rattle.sendsms_http.specs.Session.{Exchange, text_of, IsExchange, IsKept, heard_in, said_in, times_in, deeds_in, AreAmong, IsPrompt, AddsAll, Serves}
-use Rattle.sendsms_http.specs.Visit.{FitsPhase, given_octets}
+use Rattle.sendsms_http.specs.Session.{Exchange, IsExchange, IsKept, heard_in, said_in, times_in, deeds_in, AreAmong, IsPrompt, AddsAll, Serves}
+use Rattle.sendsms_http.specs.Visit.{given_octets}
 use Rattle.sendsms_http.specs.declared.http_end.HttpEnd.{HttpEnd}
 use Rattle.sendsms_http.specs.declared.http_end.HttpEnd.TheVariants as end_is
 use Rattle.sendsms_http.specs.declared.visit.Phase.{Phase}

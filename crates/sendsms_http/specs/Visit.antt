@@ -14,7 +14,6 @@ use Rattle.sms_record.specs.declared.sms.Sms.{Sms}
 use Rattle.sendsms_http.specs.Reply.{answer_of, is_failed}
 use Rattle.sendsms_http.specs.Request.{asked}
 use Rattle.sendsms_http.specs.Session.{Exchange, IsExchange, AreAmong, closes_always}
-use Rattle.sendsms_http.specs.declared.http_end.HttpEnd.{HttpEnd}
 use Rattle.sendsms_http.specs.declared.http_end.HttpEnd.TheVariants as end_is
 use Rattle.sendsms_http.specs.declared.visit.Phase.{Phase}
 use Rattle.sendsms_http.specs.declared.visit.Phase.TheVariants.{Fresh, Listening, Submitting, Saying, Done}

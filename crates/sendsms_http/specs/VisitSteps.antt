@@ -1,6 +1,5 @@
 -- The steps of a visit. No public clause cites these.
-use Rattle.std.specs.Prelude.{◌≡◌, ℕ, ◌<◌, ◌≤◌, ⊤}
-use Rattle.http_text.specs.Head.{NeedsMore}
+use Rattle.std.specs.Prelude.{◌≡◌, ℕ, ⊤}
 use Rattle.http_text.specs.Place.{EndsAt}
 use Rattle.sendsms_http.specs.Visit.{IsPhase, IsPhaseOf}
 use Rattle.sendsms_http.specs.declared.visit.Phase.{Phase}

@@ -32,10 +32,7 @@ pub(crate) fn is_failed(outcome: Result<Reply, Refusal>) -> bool
 pub(crate) fn closes_always(answer: Answer) -> bool
     ensures { result ≡ session.closes_always answer }
 {
-    matches!(
-        answer,
-        Answer::BadRequest(Spot::Head) | Answer::OutOfMemory
-    )
+    matches!(answer, Answer::BadRequest(Spot::Head) | Answer::OutOfMemory)
 }
 
 // Whether the connection closes behind the answer to a request with this head: it says so, or a body follows that isn't read.

@@ -23,12 +23,7 @@ use std::alloc::Global;
 /// no user has the name and the password of the query; `BadRequest(NotBuilt)` where its form isn't the five variables, once each and holding
 /// what they may. `OutOfMemory` may stand in the place of any answer.
 #[tactic(auto, unfolding(crate::specs::Request::asked))]
-pub fn asked(
-    alloc: Global,
-    settings: &Settings,
-    head: &Head,
-    now: u64,
-) -> Result<Vec<Sms>, Answer>
+pub fn asked(alloc: Global, settings: &Settings, head: &Head, now: u64) -> Result<Vec<Sms>, Answer>
     requires in_time { now < 2 ^ 37 }
     requires in_range { AreSettings settings.now }
     ensures parts { IfOk result (λ parts. spec.asked settings.now head.now now ≡ Ok parts.items) }
@@ -54,12 +49,7 @@ pub fn asked(
 }
 
 // What a query asks of users.
-fn asked_of(
-    alloc: Global,
-    users: &[User],
-    query: &[u8],
-    now: u64,
-) -> Result<Vec<Sms>, Answer>
+fn asked_of(alloc: Global, users: &[User], query: &[u8], now: u64) -> Result<Vec<Sms>, Answer>
     requires in_time { now < 2 ^ 37 }
     requires in_range { All IsUser users.now }
     ensures parts { IfOk result (λ parts. spec.asked_of users.now now (pairs query.now) ≡ Ok parts.items) }
@@ -76,12 +66,7 @@ fn asked_of(
 }
 
 // What a form asks as a user's.
-fn asked_by(
-    alloc: Global,
-    user: &User,
-    pairs: &[Pair],
-    now: u64,
-) -> Result<Vec<Sms>, Answer>
+fn asked_by(alloc: Global, user: &User, pairs: &[Pair], now: u64) -> Result<Vec<Sms>, Answer>
     requires in_time { now < 2 ^ 37 }
     requires short_name { length user.now.name ≤ 64 }
     ensures parts { IfOk result (λ parts. spec.asked_by (Some user.now) now pairs.now ≡ Ok parts.items) }

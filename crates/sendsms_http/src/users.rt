@@ -13,9 +13,8 @@ pub(crate) fn user_of<'a>(users: &'a [User], pairs: &[Pair]) -> Option<&'a User>
 {
     let name = first_of(value_under(pairs, b"username"), value_under(pairs, b"user"));
     let password = first_of(value_under(pairs, b"password"), value_under(pairs, b"pass"));
-    users
-        .iter()
-        .find(|user| user.username.as_slice() == name && user.password.as_slice() == password)
+    users.iter().find(|user| user.username.as_slice() == name
+        && user.password.as_slice() == password)
 }
 
 // The first octets that are some.

@@ -5,7 +5,7 @@ ghost use Rattle.store_journal.specs.Journal.{IsJournal, left, birth_of};
 ghost use Rattle.gate_store.specs.StoreSteps.{CountsIn, Loads, LoadsNone};
 
 use crate::{Store, StoreFault};
-use kn_base::{Memory, Octets};
+use kn_base::{Memory, Octets, raised};
 use sms_record::RecordFault;
 use sms_record::entry::read_accept;
 use std::alloc::Global;
@@ -25,17 +25,25 @@ fn count_messages(alloc: Global, payload: &Octets) -> Result<Option<u64>, Memory
 }
 
 /// A store over a journal whose payloads are all still to be handed out.
-pub(crate) fn load<D: Disk>(alloc: Global, journal: Journal<D>) -> Result<Store<D>, (D, StoreFault)>
+pub(crate) fn load<D: Disk>(
+    alloc: Global,
+    limit: u64,
+    journal: Journal<D>,
+) -> Result<Store<D>, (D, StoreFault)>
     requires { IsJournal D.tells D.contents journal (birth_of journal) (left journal) }
-    ensures ok { IfOk result (Loads D.tells D.contents journal) }
+    ensures ok { IfOk result (Loads D.tells D.contents limit journal) }
     ensures err { IfErr result (λ fault. LoadsNone D.tells D.contents journal fault.0 fault.1) }
 {
     let mut journal = journal;
     let mut waiting: u64 = 0;
+    let mut entries: u64 = 0;
     loop {
         match journal.next() {
             Ok(Some(payload)) => match count_messages(alloc, &payload) {
-                Ok(Some(count)) => waiting = waiting.saturating_add(count),
+                Ok(Some(count)) => {
+                    waiting = waiting.saturating_add(count);
+                    entries = raised(entries);
+                }
                 Ok(None) => return Err((journal.close(), StoreFault::Foreign)),
                 Err(Memory) => return Err((journal.close(), StoreFault::Memory)),
             },
@@ -46,6 +54,8 @@ pub(crate) fn load<D: Disk>(alloc: Global, journal: Journal<D>) -> Result<Store<
     Ok(Store {
         alloc,
         journal,
+        limit,
         waiting,
+        entries,
     })
 }

@@ -13,7 +13,7 @@ returns-in-Ok-None-count_messages-clause-err g c =
     let next = c.next.new.self in
     let none = c.in-Ok-None-count_messages in
     record {
-      cause = no_entries g.D.Disk.tells g.D.Disk.contents c.args.journal now next c.loop-payload.waiting payload c.loop-payload.invariant
+      cause = no_entries g.D.Disk.tells g.D.Disk.contents c.args.journal now next c.loop-payload.waiting c.loop-payload.entries payload c.loop-payload.invariant
           (handed_first (left now) (left next) c.in-Ok-Some.field-0 payload c.in-Ok-Some.ensures.next c.in-Ok-Some.field-0-is)
           (counted_so payload none.field-0 None none.ensures none.field-0-is);
       same = c.close.ensures.disk ∙ (c.next.ensures.disk ∙ c.loop-payload.invariant.disk);
@@ -39,9 +39,9 @@ loop-payload-preserved g c =
     let next = c.next.new.self in
     let some = c.in-Ok-Some-count_messages in
     let kept = counted_so payload some.field-0 (Some some.count) some.ensures some.field-0-is in
-    HasLoaded-more g.D.Disk.tells g.D.Disk.contents c.args.journal now next c.loop-payload.waiting some.count _ payload kept.0 c.loop-payload.invariant
+    HasLoaded-more g.D.Disk.tells g.D.Disk.contents c.args.journal now next c.loop-payload.waiting some.count _ c.loop-payload.entries _ payload kept.0 c.loop-payload.invariant
     (handed_first (left now) (left next) c.in-Ok-Some.field-0 payload c.in-Ok-Some.ensures.next c.in-Ok-Some.field-0-is)
-    c.next.ensures.same c.next.ensures.disk kept.1 kept.2 kept.3 c.saturating_add-waiting.ensures
+    c.next.ensures.same c.next.ensures.disk kept.1 kept.2 kept.3 c.saturating_add-waiting.ensures c.raised-entries.ensures.value
 
 pub returns-in-Err-clause-err : goal.returns-in-Err-clause-err
 returns-in-Err-clause-err g c =
