@@ -50,7 +50,9 @@ fn put_short_lines(octets: &mut Octets, octet: u8, room: u64) -> Result<(), Memo
 /// A head of a shape with so many octets. `lines` has as many as 64 lines of one length make, and `small` has no room.
 fn head_of(alloc: Global, name: &[u8], len: u64) -> Result<Octets, Memory> {
     let (front, octet, back) = shape_of(name);
-    let room = len.saturating_sub(front.len() as u64).saturating_sub(back.len() as u64);
+    let room = len
+        .saturating_sub(front.len() as u64)
+        .saturating_sub(back.len() as u64);
     let mut head = Octets::from_slice(alloc, front)?;
     match name {
         b"lines" => put_lines(&mut head, octet, room)?,

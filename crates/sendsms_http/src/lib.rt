@@ -5,8 +5,8 @@
 //! by itself: what it wishes, by what it is given. `serve_http` does its wishes over a peer, a clock and a store.
 //!
 //! The one contract is that of `serve_http`: what a session hears, says, reads of the clock and hands in is an HTTP talk. Each accepted
-//! message has its request, and each 202 its message; only the last answer may be cut, and only where the peer's count of faults or of want
-//! of memory rose.
+//! message has its request, and each 202 its message; no answer but the last is ever cut short, and that one only where the peer's count of faults or of
+//! want of memory rose.
 #![tactic(auto)]
 
 mod form;

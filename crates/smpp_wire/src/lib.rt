@@ -5,8 +5,8 @@
 //!
 //! The one contract: the grammar of frames is a function from commands to octets (`specs/Grammar.antt`). `Whole` comes exactly where
 //! a frame stands in front, `NeedMore` exactly where octets can follow that make one, and `Bad` else, at the first octet with which
-//! none can. What is written is the frame of the command. No frame begins another, so the frames of a stream don't depend on how it
-//! is cut.
+//! none can. What is written is the frame of the command. No frame begins another, so a stream gives the same frames in whichever
+//! pieces it comes.
 //!
 //! A body has just the octets that the length says. So each field is read by how many are left for it and those behind it: a `Room`
 //! says which numbers of octets these can fill.
