@@ -1,11 +1,12 @@
 //! Configurations as users have them. A line of standard input holds files, `NAME TEXT` each, between bars; the first is the
 //! configuration. What it comes to is a line of standard output below it. Where `lines` stands in front, each of the lines that
-//! are read of it is one.
+//! are read of it is one; where `route` or `carries` does, the links of a configuration are tried.
 #![tactic(auto)]
 
 mod fault;
 mod groups;
 mod lines;
+mod routes;
 
 use config_groups::{ConfigFault, Settings, read_config};
 use fault::put_fault;
@@ -13,6 +14,7 @@ use groups::put_settings;
 use kn_base::{MemShelf, Memory, Octets};
 use line_cases::{Cases, cut_at, cut_item, octets_of, run_lines};
 use lines::put_lines;
+use routes::{put_carried, put_route};
 use std::alloc::Global;
 use std::process::ExitCode;
 
@@ -21,13 +23,29 @@ struct ConfigCases;
 
 impl Cases for ConfigCases {
     fn report(&self, alloc: Global, line: &[u8], report: &mut Octets) -> Result<(), Memory> {
-        let (kind, files) = cut_at(line, b' ');
+        let (kind, text) = cut_at(line, b' ');
         if kind == b"lines".as_slice() {
-            return put_lines(alloc, files, report);
+            return put_lines(alloc, text, report);
         }
         report.extend_from_slice(b"    ")?;
-        put_config(config_in(alloc, line)?, report)?;
+        put_case(alloc, kind, (line, text), report)?;
         report.push(b'\n')
+    }
+}
+
+/// Puts last what a case came to: a line, of which the text stands behind its first word.
+fn put_case(
+    alloc: Global,
+    kind: &[u8],
+    (line, text): (&[u8], &[u8]),
+    report: &mut Octets,
+) -> Result<(), Memory> {
+    if kind == b"route".as_slice() {
+        put_route(alloc, text, report)
+    } else if kind == b"carries".as_slice() {
+        put_carried(alloc, text, report)
+    } else {
+        put_config(config_in(alloc, line)?, report)
     }
 }
 

@@ -28,7 +28,8 @@ fn cut_plus(value: &[u8]) -> (bool, &[u8])
     }
 }
 
-fn is_text_octet(octet: u8) -> bool
+/// Whether a text that a message can come from may hold this octet: an ASCII letter, a digit, a space or one of `.,:;!?+-/()=*#'"`.
+pub fn is_text_octet(octet: u8) -> bool
     ensures { result ≡ spec.is_text_octet octet }
 {
     octet.is_ascii_alphanumeric() || MARKS.contains(&octet)
@@ -40,7 +41,8 @@ fn are_text_octets(value: &[u8]) -> bool
     value.iter().all(|&octet| is_text_octet(octet))
 }
 
-fn is_sendable_text(value: &[u8]) -> bool
+/// Whether a message can come from this text: it is 1 to 11 such octets.
+pub fn is_sendable_text(value: &[u8]) -> bool
     ensures { result ≡ spec.is_sendable_text value.now }
 {
     has_len(value, 1, MOST_TEXT) && are_text_octets(value)

@@ -1,12 +1,23 @@
 //! Which link may carry which message: the rules of a configuration.
 //!
-//! A rule for each link, and how many messages may wait. So far they are data alone.
+//! `Rules` has a rule for each link, and how many messages may wait. `carries` says what a protocol can carry at all, `usable` how
+//! well a link suits a message by its rule, `routable` whether any link does, and `assign` which link sends it now.
+//!
+//! The one contract: each of the four answers what its definition says, for every message and every rule. None takes memory.
 #![tactic(auto)]
 
+mod carriage;
+mod cimd2;
+mod fit;
 mod link_kind;
 mod link_rule;
+mod lists;
+mod pool;
 mod rules;
 
+pub use carriage::carries;
+pub use fit::{Fit, usable};
 pub use link_kind::LinkKind;
 pub use link_rule::LinkRule;
+pub use pool::{assign, routable};
 pub use rules::Rules;
