@@ -8,6 +8,7 @@ mod conf;
 mod frame;
 mod head;
 mod record;
+mod reports;
 mod request;
 mod session;
 mod split;
@@ -49,6 +50,8 @@ fn put_case(alloc: Global, kind: &[u8], text: &[u8], report: &mut Octets) -> Res
         record::put_header(alloc, text, report)
     } else if kind == b"frame".as_slice() {
         frame::put_frame(alloc, text, report)
+    } else if kind == b"reports".as_slice() {
+        reports::put_reports(alloc, text, report)
     } else {
         put_http(alloc, kind, text, report)
     }

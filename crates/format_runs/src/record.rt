@@ -26,6 +26,17 @@ const RECORD: &[u8] = &[
 /// What stands before the record in the entry of that one message, taken at second 1,000.
 const ENTRY_HEAD: &[u8] = &[1, 0, 0, 0, 0, 0, 0, 0x03, 0xE8, 0, 1];
 
+/// The message of the record, without its body.
+pub fn message_without_body(alloc: Global) -> Result<Sms, Memory> {
+    match read_sms(alloc, RECORD) {
+        Ok((mut sms, _)) => {
+            sms.body = Octets::new(alloc);
+            Ok(sms)
+        }
+        Err(_) => Err(Memory),
+    }
+}
+
 fn put_fault(report: &mut Octets, fault: RecordFault) -> Result<(), Memory> {
     match fault {
         RecordFault::Short => report.extend_from_slice(b"short"),
