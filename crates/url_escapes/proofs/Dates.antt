@@ -1,13 +1,17 @@
 -- The days of the calendar, one behind the other, are those that their numbers name.
-use Rattle.std.proofs.Common.{◌≡◌, ℕ, zero, suc, ◌+◌, ◌<◌, ◌≤◌, nat_lt, ◌⊎◌, inl, inr, refl, sym, ap, ◌∙◌, arith, rules, ℤ, pos, subst}
+use Rattle.std.proofs.Common.{◌≡◌, ℕ, zero, suc, ◌+◌, ◌<◌, ◌≤◌, nat_lt, ◌⊎◌, inl, inr, refl, sym, ap, ◌∙◌, arith, rules, ℤ, pos, subst, ◌/◌, ◌^◌, ◌*ℤ◌, ◌+ℤ◌, to_z, w64}
 use Rattle.std.specs.Int.{IsInRange}
 use Rattle.std.proofs.lemmas.Bool.{cases_lt, cond_below, cond_above}
 use Rattle.jiff_core.specs.Calendar.{days_in_month, days_from_civil}
 use Rattle.jiff_core.specs.Date.{epoch_day}
+use Rattle.jiff_core.specs.DateTime.{civil_nanos}
+use Rattle.jiff_core.specs.Timestamp.{nanos_of_seconds}
 use Rattle.jiff_core.specs.declared.civil.date.Date.{Date}
+use Rattle.jiff_core.specs.declared.civil.datetime.DateTime.{DateTime}
 use Rattle.jiff_core.proofs.CalendarLemmas.{days_in_month_bounds}
 use Rattle.jiff_core.proofs.DateLemmas.{epoch_day_injective, days_from_civil-day, days_from_civil-next_month, days_from_civil-next_year, days_from_civil-max}
-use Rattle.jiff_core.proofs.SignedLemmas.{signed_arith}
+use Rattle.jiff_core.proofs.SignedLemmas.{signed_arith, signed_casts}
+use Rattle.jiff_core.proofs.DateTimeLemmas.{civil_nanos-parts, time_nanos_bound}
 use Rattle.jiff_core.proofs.StandardFacts.{known_days}
 use Rattle.url_escapes.specs.Date.{Day, next_day, day_at}
 
@@ -80,7 +84,7 @@ date_of : (days : ℕ) (d : Day) → IsAt days d → Date
 date_of days d at = record { year = pos d.year; month = d.month; day = d.day; year_in = omega (arith, signed_arith, at.first, at.last); month_in = at.month; day_in = at.day }
 
 -- the date of a day number is the one that comes so many days after the first
-pub date_is : (days : ℕ) (date : Date) → days ≤ 2932896 → epoch_day date ≡ pos days → (date.year ≡ pos (day_at days).year) × (date.month ≡ (day_at days).month) × (date.day ≡ (day_at days).day)
+date_is : (days : ℕ) (date : Date) → days ≤ 2932896 → epoch_day date ≡ pos days → (date.year ≡ pos (day_at days).year) × (date.month ≡ (day_at days).month) × (date.day ≡ (day_at days).day)
 unfolding date_of
 date_is days date small e =
     let at = at_is days small in
@@ -88,3 +92,11 @@ date_is days date small e =
 
 pub year_below : (days : ℕ) → days ≤ 2932896 → (day_at days).year < 10000
 year_below days small = omega (arith, (at_is days small).last)
+
+-- the day number of what a clock in UTC shows
+day_of_clock : (time : ℕ) (nanos : ℤ) (clock : DateTime) → time < 2 ^ 37 → nanos ≡ to_z w64 time *ℤ pos 1000000000 → civil_nanos clock ≡ nanos +ℤ nanos_of_seconds (pos 0) → epoch_day clock.date ≡ pos (time / 86400)
+day_of_clock time nanos clock below told shown = omega (arith, signed_casts, below, told, shown, civil_nanos-parts clock, time_nanos_bound clock.time)
+
+-- and so its date is the one that comes so many days after the first
+pub clock_is : (time : ℕ) (nanos : ℤ) (clock : DateTime) → time < 2 ^ 37 → nanos ≡ to_z w64 time *ℤ pos 1000000000 → civil_nanos clock ≡ nanos +ℤ nanos_of_seconds (pos 0) → (clock.date.year ≡ pos (day_at (time / 86400)).year) × (clock.date.month ≡ (day_at (time / 86400)).month) × (clock.date.day ≡ (day_at (time / 86400)).day)
+clock_is time nanos clock below told shown = date_is (time / 86400) clock.date (omega (arith, below)) (day_of_clock time nanos clock below told shown)

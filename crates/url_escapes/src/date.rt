@@ -3,11 +3,12 @@
 ghost use Rattle.std.specs.Prelude.{◌≡◌, ◌++◌, ◌<◌, ◌^◌, ◌/◌, OnOk, pos};
 ghost use Rattle.url_escapes.specs.Date.{two, day_at, day_text, date_text};
 
-use jiff_core::civil::Date;
+use jiff::Timestamp;
+use jiff::civil::Date;
+use jiff::tz::Offset;
 use kn_base::{Memory, Octets};
 
-/// The seconds of a day, of an hour and of a minute.
-const DAY: u64 = 86_400;
+/// The seconds of an hour and of a minute.
 
 const HOUR: u64 = 3_600;
 
@@ -21,7 +22,8 @@ fn date_at(time: u64) -> Date
     ensures day { result.day ≡ (day_at (time / 86400)).day }
     ensures four { (day_at (time / 86400)).year < 10000 }
 {
-    Date::from_unix_epoch_day((time / DAY) as i64).unwrap()
+    let at = Timestamp::from_second(time as i64).unwrap();
+    Offset::UTC.to_datetime(at).date()
 }
 
 /// Puts a number last, in two digits.
@@ -41,13 +43,13 @@ fn write_day(out: &mut Octets, time: u64) -> Result<(), Memory>
     ensures { OnOk result (out.new ≡ out.old ++ day_text (day_at (time / 86400))) }
 {
     let date = date_at(time);
-    let year = date.year as u16;
+    let year = date.year() as u16;
     write_two(out, (year / 100) as u8)?;
     write_two(out, (year % 100) as u8)?;
     out.push(b'-')?;
-    write_two(out, date.month)?;
+    write_two(out, date.month() as u8)?;
     out.push(b'-')?;
-    write_two(out, date.day)
+    write_two(out, date.day() as u8)
 }
 
 /// Puts a time in Unix seconds last, as `YYYY-MM-DD HH:MM` in UTC.
