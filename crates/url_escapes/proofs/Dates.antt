@@ -23,6 +23,7 @@ record IsAt (days : ℕ) (d : Day) : Type 0 where
   day : IsInRange 1 (days_in_month (pos d.year) d.month) d.day
   number : days_from_civil (pos d.year) d.month d.day ≡ pos days
 
+-- within a month
 in_month : (days : ℕ) (d : Day) → IsAt days d → d.day < days_in_month (pos d.year) d.month → IsAt (suc days) (record { year = d.year; month = d.month; day = d.day + 1 })
 in_month days d at h = record {
   first = at.first;
@@ -32,6 +33,7 @@ in_month days d at h = record {
   number = omega (arith, signed_arith, at.number, days_from_civil-day (pos d.year) d.month (d.day + 1) d.day (omega arith) at.day.0);
 }
 
+-- from a month to the next
 in_year : (days : ℕ) (d : Day) → IsAt days d → days_in_month (pos d.year) d.month ≤ d.day → d.month < 12 → IsAt (suc days) (record { year = d.year; month = d.month + 1; day = 1 })
 in_year days d at h m = record {
   first = at.first;
@@ -48,6 +50,7 @@ last_day days d small below above number =
     let same : pos days ≡ pos 2932896 = sym number ∙ ap (λ (y : ℕ). days_from_civil (pos y) 12 31) top ∙ days_from_civil-max in
     omega (arith, signed_arith, same)
 
+-- from a year to the next
 in_next_year : (days : ℕ) (d : Day) → suc days ≤ 2932896 → IsAt days d → days_in_month (pos d.year) d.month ≤ d.day → 12 ≤ d.month → IsAt (suc days) (record { year = d.year + 1; month = 1; day = 1 })
 in_next_year days d small at h m =
     let december : d.month ≡ 12 = omega (arith, at.month.1) in
@@ -61,9 +64,11 @@ in_next_year days d small at h m =
       number = omega (arith, signed_arith, number, days_from_civil-next_year (pos d.year) (pos (d.year + 1)) (omega (arith, signed_arith)) (omega (arith, signed_arith)));
     }
 
+-- 1 January 1970
 first_is : IsAt 0 (record { year = 1970; month = 1; day = 1 })
 first_is = record { first = omega arith; last = omega arith; month = (omega arith, omega arith); day = (omega arith, omega (arith, days_in_month_bounds (pos 1970) 1)); number = known_days.0 }
 
+-- from any day to the next
 next_is : (days : ℕ) (d : Day) → suc days ≤ 2932896 → IsAt days d → IsAt (suc days) (next_day d)
 next_is days d small at =
     elim (cases_lt d.day (days_in_month (pos d.year) d.month)) [
@@ -74,6 +79,7 @@ next_is days d small at =
       ]
     ]
 
+-- and so each day that is counted
 at_is : (days : ℕ) → days ≤ 2932896 → IsAt days (day_at days)
 unfolding day_at
 at_is zero small = first_is
@@ -90,6 +96,7 @@ date_is days date small e =
     let at = at_is days small in
     epoch_day_injective date (date_of days (day_at days) at) (e ∙ sym at.number)
 
+-- its year has four digits
 pub year_below : (days : ℕ) → days ≤ 2932896 → (day_at days).year < 10000
 year_below days small = omega (arith, (at_is days small).last)
 

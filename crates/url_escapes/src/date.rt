@@ -8,13 +8,13 @@ use jiff::civil::Date;
 use jiff::tz::Offset;
 use kn_base::{Memory, Octets};
 
-/// The seconds of an hour and of a minute.
-
+/// The seconds of an hour.
 const HOUR: u64 = 3_600;
 
+/// The seconds of a minute.
 const MINUTE: u64 = 60;
 
-/// The date at a time in Unix seconds.
+/// The date in UTC at a time in Unix seconds. Its year has four digits.
 fn date_at(time: u64) -> Date
     requires { time < 2 ^ 37 }
     ensures year { result.year ≡ pos (day_at (time / 86400)).year }

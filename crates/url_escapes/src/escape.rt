@@ -3,7 +3,7 @@
 ghost use Rattle.std.specs.Prelude.{◌≡◌};
 ghost use Rattle.url_escapes.specs.Escape.{escape_of};
 
-/// What an escape asks for.
+/// What an escape asks for. What each stands for is said in `write_value`, and which words it uses in `left_by`.
 #[derive(Clone, Copy)]
 pub(crate) enum Escape {
     Keyword,

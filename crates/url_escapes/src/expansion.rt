@@ -58,8 +58,9 @@ fn left_by_pair(unused: &[Octets], letter: u8) -> &[Octets]
     }
 }
 
-/// A template with the values of `facts` in the places of its escapes, written in a style. What else the template has,
-/// `%` before an unknown letter and at the end too, stays as it is in each style. `Memory`.
+/// A template with the values of `facts` in the places of its escapes, written in a style: `%` and a letter are an escape.
+/// What else the template has stays as it is in each style, `%` before any other octet and at the end too; `%%` is `%`.
+/// The time of the facts is below 2^37 seconds. `Memory`.
 pub fn expand(alloc: Global, template: &[u8], facts: &Facts, style: Style) -> Result<Octets, Memory>
     requires { facts.now.time < 2 ^ 37 }
     ensures { IfOk result (λ text. text ≡ expanded template.now facts.now style) }

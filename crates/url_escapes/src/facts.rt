@@ -7,7 +7,7 @@ use kn_base::{Items, Octets};
 pub struct Facts {
     /// The first word.
     pub keyword: Octets,
-    /// All words in order, the first among them: the pieces between runs of space, TAB, CR and LF.
+    /// All words in order, the first among them. Spaces, TABs, CRs and LFs separate them.
     pub words: Items<Octets>,
     /// The message as text.
     pub message: Octets,

@@ -9,8 +9,8 @@ use percent_encoding::percent_encode_byte;
 /// Where a template's values go.
 #[derive(Clone, Copy, Debug, PartialEq)]
 pub enum Style {
-    /// Into a URL: letters, digits, `-`, `.`, `_` and `~` are written as they are, a space as `+`, and any other octet as
-    /// `%` and two upper-case hex digits.
+    /// Into a URL: what RFC 3986 calls unreserved stays (2.3), a space becomes `+`, and any other octet becomes `%` with its
+    /// two hex digits in upper case (2.1).
     Url,
     /// Into a text: a value is written as it is.
     Plain,
