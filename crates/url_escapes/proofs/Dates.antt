@@ -1,5 +1,5 @@
 -- The days of the calendar, one behind the other, are those that their numbers name.
-use Rattle.std.proofs.Common.{◌≡◌, ℕ, zero, suc, ◌+◌, ◌<◌, ◌≤◌, nat_lt, ◌⊎◌, inl, inr, refl, sym, ap, ◌∙◌, arith, rules, ℤ, pos, subst, ◌/◌, ◌^◌, ◌*ℤ◌, ◌+ℤ◌, to_z, w64}
+use Rattle.std.proofs.Common.{◌≡◌, ℕ, zero, suc, ◌+◌, ◌<◌, ◌≤◌, inl, inr, refl, sym, ap, ◌∙◌, arith, ℤ, pos, subst, ◌/◌, ◌^◌, ◌*ℤ◌, ◌+ℤ◌, to_z, w64}
 use Rattle.std.specs.Int.{IsInRange}
 use Rattle.std.proofs.lemmas.Bool.{cases_lt, cond_below, cond_above}
 use Rattle.jiff_core.specs.Calendar.{days_in_month, days_from_civil}

@@ -1,5 +1,5 @@
 -- What each escape stands for, and which words it uses.
-use Rattle.std.specs.Prelude.{ℕ, zero, suc, ◌==◌, ◌&&◌, List, [], ◌∷◌, ◌++◌, map, drop, decimal, Option, Some, None, if◌then◌else◌}
+use Rattle.std.specs.Prelude.{ℕ, ◌==◌, ◌&&◌, List, [], ◌∷◌, ◌++◌, map, drop, decimal, Option, Some, None, if◌then◌else◌}
 use Rattle.std.specs.List.{flat_map}
 use Rattle.url_escapes.specs.Date.{date_text}
 use Rattle.url_escapes.specs.declared.facts.Facts.{Facts}

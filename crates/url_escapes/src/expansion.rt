@@ -3,7 +3,7 @@
 ghost use Rattle.std.specs.Prelude.{◌≡◌, ◌++◌, ◌<◌, ◌^◌, IfOk, OnOk};
 ghost use Rattle.url_escapes.specs.Expansion.{kept, pair_text, left_by_pair, expanded};
 
-use crate::escape::{Escape, escape_of};
+use crate::escape::escape_of;
 use crate::style::write_styled;
 use crate::value::write_value;
 use crate::words::{behind_first, left_by};
