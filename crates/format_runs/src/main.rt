@@ -14,6 +14,7 @@ mod session;
 mod split;
 mod store;
 mod talk;
+mod template;
 
 use kn_base::{Memory, Octets};
 use line_cases::{Cases, cut_at, run_lines};
@@ -42,6 +43,10 @@ fn put_case(alloc: Global, kind: &[u8], text: &[u8], report: &mut Octets) -> Res
         split::put_joined(alloc, text, report)
     } else if kind == b"joint".as_slice() {
         split::put_joint(alloc, text, report)
+    } else if kind == b"template".as_slice() {
+        template::put_template(alloc, text, report)
+    } else if kind == b"internal-id".as_slice() {
+        template::put_internal_id(alloc, text, report)
     } else if kind == b"record".as_slice() {
         record::put_record(alloc, text, report)
     } else if kind == b"entry".as_slice() {

@@ -1,0 +1,6 @@
+pub mod Style
+pub mod Escape
+pub mod Date
+pub mod Value
+pub mod Expansion
+pub mod Identity
