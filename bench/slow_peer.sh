@@ -45,7 +45,7 @@ done
 
 echo "SHAPE HEAD TOTAL CUT: 1,048,576 octets, each head answered"
 for cut in 1 7 4096; do
-    for shape in target name value blank lines; do
+    for shape in target name value blank lines short; do
         serve 3 "budget 1048576, heard 1048576, said $((16 * 109))" "$shape" 65536 1048576 "$cut"
     done
     serve 3 "budget 1048576, heard 1048576, said $((16 * 117))" method 65536 1048576 "$cut"

@@ -1,7 +1,9 @@
 //! The program: reads the words, makes the machine's house and calls the command.
 #![tactic(auto)]
 
-use boxes_main::{Command, ConfigFault, Failure, HostHouse, House, door, read_command, show, status, tell};
+use boxes_main::{
+    Command, ConfigFault, Failure, HostHouse, House, door, read_command, show, status, tell,
+};
 use kn_base::{Memory, Octets};
 use std::alloc::Global;
 use std::env;

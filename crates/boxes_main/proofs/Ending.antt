@@ -1,6 +1,6 @@
 -- The stages of the commands, put together.
-use Rattle.std.proofs.Common.{◌≡◌, ℕ, Bool, true, false, List, [], Option, Some, None, refl, ap, sym, ◌∙◌, subst}
-use Rattle.std.specs.Prelude.{◌↔◌, option_map, IsSomeAnd, IfSome, Err}
+use Rattle.std.proofs.Common.{◌≡◌, ℕ, Bool, List, [], Option, Some, None, refl, ap, sym, ◌∙◌, arith, subst}
+use Rattle.std.specs.Prelude.{◌↔◌, option_map, IfSome}
 use Rattle.kn_base.specs.Course.{Course}
 use Rattle.config_groups.specs.declared.read.ConfigFault.TheVariants as config_is
 use Rattle.config_groups.specs.declared.settings.Settings.{Settings}
@@ -10,7 +10,7 @@ use Rattle.boxes_main.specs.Door.{IsServed, ComesTo}
 use Rattle.boxes_main.specs.DoorSteps.{ServesOne, Ends}
 use Rattle.boxes_main.specs.Failure.{status_of}
 use Rattle.boxes_main.specs.House.{Rooms, Stock, MakesFor}
-use Rattle.boxes_main.specs.Opening.{Reads, IsConfigured, IsNotOpen}
+use Rattle.boxes_main.specs.Opening.{IsConfigured, IsNotOpen}
 use Rattle.boxes_main.specs.OpeningSteps.{Opens, OpensNothing}
 use Rattle.boxes_main.specs.Show.{IsShown, ComesToShow}
 use Rattle.boxes_main.specs.ShowSteps.{ShowsOne, EndsShow}
@@ -29,7 +29,7 @@ module _
 
   -- want of memory before the shelf was asked
   pub not_begun : (name : List ℕ) → IsNotOpen files shelf_faults tells contents faults (Some name) old old stock None (Configuration config_is.Memory)
-  not_begun name = (record { read = by_told (files old); missed = λ is. absurd cc }, refl)
+  not_begun name = (record { read = by_told (files old); missed = λ is. absurd cc; kept = refl; not_fewer = omega arith }, refl)
     where
       by_told : (told : Option (List (List ℕ × List ℕ))) → IfSome told (λ files. Unit {0})
       by_told None = tt

@@ -1,5 +1,5 @@
 -- A store that is opened on a new disk of the house.
-use Rattle.std.proofs.Common.{◌≡◌, ℕ, Bool, true, false, List, Option, Some, None, refl, ap, sym, ◌∙◌, subst}
+use Rattle.std.proofs.Common.{◌≡◌, ℕ, Bool, true, false, List, Option, Some, refl, ap, sym, ◌∙◌, subst}
 use Rattle.std.specs.Bool.{OnTrue}
 use Rattle.kn_base.specs.Count.{Rose}
 use Rattle.config_groups.specs.Ranges.{AreSettings}
@@ -11,7 +11,7 @@ use Rattle.gate_store.specs.Store.{IsOpened, IsUnopened}
 use Rattle.gate_store.specs.declared.store.Store.{Store}
 use Rattle.gate_store.specs.declared.store_fault.StoreFault.{StoreFault}
 use Rattle.gate_store.specs.declared.store_fault.StoreFault.TheVariants.{Foreign, Disk, Memory}
-use Rattle.boxes_main.specs.House.{Rooms, Stock, MakesOne, MakesFor, IsToldWord}
+use Rattle.boxes_main.specs.House.{Rooms, Stock, MakesOne, IsToldWord}
 use Rattle.boxes_main.specs.Opening.{IsConfigured, IsNotOpen}
 use Rattle.boxes_main.specs.OpeningSteps.{OpensStore, OpensNone, Opens, OpensNothing}
 use Rattle.boxes_main.specs.declared.failure.Failure.{Failure}

@@ -1,5 +1,5 @@
 -- The text that is printed, put together, and what came of giving it.
-use Rattle.std.proofs.Common.{◌≡◌, ℕ, ◌+◌, ◌<◌, ◌≤◌, List, [], ◌++◌, append_assoc, codes, decimal, refl, ap, sym, ◌∙◌, arith, subst, inl, inr}
+use Rattle.std.proofs.Common.{◌≡◌, ℕ, ◌<◌, ◌≤◌, List, ◌++◌, append_assoc, codes, decimal, ap, sym, ◌∙◌, arith, subst, inl, inr}
 use Rattle.std.specs.Prelude.{◌⊎◌}
 use Rattle.kn_base.specs.Count.{Counts, Rose, last_count}
 use Rattle.kn_base.specs.Course.{Course}

@@ -1,5 +1,5 @@
 -- What stands behind each command that has a store: its configuration was read, and the store that it names was opened.
-use Rattle.std.specs.Prelude.{◌≡◌, ◌≢◌, ℕ, Bool, List, [], All, Option, Some, None, Result, Ok, Err, IfSome, IsSomeAnd, IsErrOf, MatchOption}
+use Rattle.std.specs.Prelude.{◌≡◌, ◌≢◌, ℕ, ◌≤◌, Bool, List, [], All, Option, None, Result, Ok, Err, IfSome, IsSomeAnd, IsErrOf, MatchOption}
 use Rattle.std.specs.Bool.{OnTrue}
 use Rattle.kn_base.specs.Count.{Rose}
 use Rattle.config_groups.specs.Config.{IsConfig}
@@ -19,10 +19,12 @@ use Rattle.boxes_main.specs.declared.failure.Failure.{Failure}
 use Rattle.boxes_main.specs.declared.failure.Failure.TheVariants.{Usage, Configuration, NoStoreFile, Store, Session, Output}
 
 module _ {S : Type 0} (files : S → Option (List (List ℕ × List ℕ))) (faults : S → ℕ) where
-  -- The configuration of a name was read from a shelf, to settings or a fault: those of its files, where they are told.
+  -- The configuration of a name was read from a shelf, to settings or a fault: those of its files, where they are told. They stay.
   pub record Reads (name : List ℕ) (old new : S) (outcome : Result Settings ConfigFault) : Type 0 where
     pub read : IfSome (files old) (λ files. IsConfig files name (faults old) (faults new) outcome)
     pub missed : IsErrOf outcome NoFile → Rose (faults old) (faults new)
+    pub kept : files new ≡ files old
+    pub not_fewer : faults old ≤ faults new
 
   -- The configuration that the words name has these settings, and they name a store.
   pub record IsConfigured (name : Option (List ℕ)) (old new : S) (settings : Settings) : Type 0 where

@@ -56,7 +56,14 @@ fn serve(alloc: Global, text: &[u8], cut: usize) -> Result<Octets, ConfigFault> 
     let mut talker = Talker::new(text, cut);
     let mut clock = MemClock::new(alloc, Vec::new(alloc));
     let mut store = Nowhere;
-    let end = serve_http(alloc, &settings, &mut store, &mut talker, &mut clock, BUDGET);
+    let end = serve_http(
+        alloc,
+        &settings,
+        &mut store,
+        &mut talker,
+        &mut clock,
+        BUDGET,
+    );
     let mut report = Octets::new(alloc);
     put_end(&mut report, end)?;
     put_named(&mut report, b", heard ", talker.heard(text))?;

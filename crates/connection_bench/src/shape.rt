@@ -14,6 +14,7 @@ fn shape_of(name: &[u8]) -> (&'static [u8], u8, &'static [u8]) {
         b"name" => (b"GET /x HTTP/1.1\r\n", b'a', b": b\r\n\r\n"),
         b"value" => (b"GET /x HTTP/1.1\r\na: ", b'b', b"\r\n\r\n"),
         b"blank" => (b"", b'\n', b"GET /x HTTP/1.1\r\n\r\n"),
+        b"short" => (b"GET /", b'a', b"\r\n"),
         _ => (b"GET /x HTTP/1.1\r\n", b'b', b"\r\n"),
     }
 }
@@ -36,13 +37,26 @@ fn put_lines(octets: &mut Octets, octet: u8, room: u64) -> Result<(), Memory> {
     Ok(())
 }
 
+/// Puts a long target last, and behind it 64 short header lines.
+fn put_short_lines(octets: &mut Octets, octet: u8, room: u64) -> Result<(), Memory> {
+    put_times(octets, octet, room.saturating_sub(64 * 5))?;
+    octets.extend_from_slice(b" HTTP/1.1\r\n")?;
+    for _ in 0..64 {
+        octets.extend_from_slice(b"a:b\r\n")?;
+    }
+    Ok(())
+}
+
 /// A head of a shape with so many octets. `lines` has as many as 64 lines of one length make, and `small` has no room.
 fn head_of(alloc: Global, name: &[u8], len: u64) -> Result<Octets, Memory> {
     let (front, octet, back) = shape_of(name);
-    let room = len.saturating_sub(front.len() as u64).saturating_sub(back.len() as u64);
+    let room = len
+        .saturating_sub(front.len() as u64)
+        .saturating_sub(back.len() as u64);
     let mut head = Octets::from_slice(alloc, front)?;
     match name {
         b"lines" => put_lines(&mut head, octet, room)?,
+        b"short" => put_short_lines(&mut head, octet, room.saturating_sub(11))?,
         b"small" => {}
         _ => put_times(&mut head, octet, room)?,
     }

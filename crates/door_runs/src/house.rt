@@ -177,7 +177,5 @@ pub fn house_of(
     let stock = both(clocks_of(alloc), named(alloc, disk));
     let ((visitor, shelf), (clocks, disks)) = both(rooms, stock)?;
     let (output, errors) = sinks_of(alloc, of_output)?;
-    Ok(MemHouse::new(
-        alloc, visitor, shelf, output, errors, 1, clocks, disks,
-    ))
+    Ok(MemHouse::new(alloc, visitor, shelf, output, errors, 1, clocks, disks))
 }

@@ -2,7 +2,8 @@
 
 use kn_base::{Memory, Octets, read_hex, write_hex};
 use line_cases::{cut_at, number, put_named, put_text, words_of};
-use smpp_wire::{Body, Frame, Pdu, read_frame, write_pdu};
+use smpp_wire::command::ENQUIRE_LINK_RESP;
+use smpp_wire::{Body, Frame, Pdu, read_frame, tlv_value, write_pdu, write_tlv};
 use std::alloc::Global;
 
 /// Puts octets last that a word stands for: a text behind `'`, hex digits, or as often as a number says before `x`.
@@ -165,6 +166,19 @@ fn put_written(alloc: Global, report: &mut Octets, octets: &[u8]) -> Result<(), 
     write_hex(report, again.as_slice())
 }
 
+/// Puts a frame last whose body has no octets: the answer to an `enquire_link`.
+fn put_answer(alloc: Global, report: &mut Octets, sequence: u32) -> Result<(), Memory> {
+    let pdu = Pdu {
+        id: ENQUIRE_LINK_RESP,
+        status: 0,
+        sequence,
+        body: Body::Nothing,
+    };
+    let mut octets = Octets::new(alloc);
+    write_pdu(&mut octets, &pdu)?;
+    write_hex(report, octets.as_slice())
+}
+
 /// Puts last what is read of each front, once where those beside it are the same.
 fn put_fronts(alloc: Global, report: &mut Octets, octets: &[u8]) -> Result<(), Memory> {
     let mut last = Octets::new(alloc);
@@ -194,9 +208,43 @@ fn put_stream(report: &mut Octets, octets: &[u8]) -> Result<(), Memory> {
     put_named(report, b"left ", rest.len() as u64)
 }
 
+/// Puts last the value of the first optional parameter with a tag.
+fn put_value(report: &mut Octets, octets: &[u8], tag: u16) -> Result<(), Memory> {
+    match tlv_value(octets, tag) {
+        Some(value) => write_hex(report, value),
+        None => report.extend_from_slice(b"none"),
+    }
+}
+
+/// Puts an optional parameter of at most 1,000 octets last.
+fn put_parameter(alloc: Global, report: &mut Octets, value: &[u8], tag: u16) -> Result<(), Memory> {
+    let mut octets = Octets::new(alloc);
+    write_tlv(&mut octets, tag, &value[..value.len().min(1_000)])?;
+    write_hex(report, octets.as_slice())
+}
+
+/// `value TAG WORDS`, `parameter TAG WORDS`: the value with a tag in optional parameters, or the parameter with a value.
+fn put_tlv(alloc: Global, kind: &[u8], text: &[u8], report: &mut Octets) -> Result<(), Memory> {
+    let (tag, text) = cut_at(text, b' ');
+    let tag = number(tag).min(65_535) as u16;
+    let octets = frame_octets(alloc, text)?;
+    if kind == b"value".as_slice() {
+        put_value(report, octets.as_slice(), tag)
+    } else {
+        put_parameter(alloc, report, octets.as_slice(), tag)
+    }
+}
+
 /// `frame read WORDS`, `frame written WORDS`, `frame cut WORDS`, `frame stream WORDS`: octets, as words of hex digits or texts.
+/// And `frame value TAG WORDS`, `frame parameter TAG WORDS`, `frame answer SEQUENCE`.
 pub fn put_frame(alloc: Global, text: &[u8], report: &mut Octets) -> Result<(), Memory> {
     let (kind, text) = cut_at(text, b' ');
+    if kind == b"value".as_slice() || kind == b"parameter".as_slice() {
+        return put_tlv(alloc, kind, text, report);
+    }
+    if kind == b"answer".as_slice() {
+        return put_answer(alloc, report, number(text).min(1_000_000) as u32);
+    }
     let octets = frame_octets(alloc, text)?;
     if kind == b"read".as_slice() {
         put_read(report, octets.as_slice())

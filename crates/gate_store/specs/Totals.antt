@@ -1,5 +1,5 @@
 -- What a store counts, by the entries that it holds.
-use Rattle.std.specs.Prelude.{ℕ, List, length, min}
+use Rattle.std.specs.Prelude.{List, length, min}
 use Rattle.kn_base.specs.Count.{last_count}
 use Rattle.gate_model.specs.declared.totals.Totals.{Totals}
 use Rattle.sms_record.specs.declared.entry.accept.Accept.{Accept}

@@ -1,12 +1,12 @@
 -- Optional parameters, and a message behind its length, are read exactly.
-use Rattle.std.proofs.Common.{◌≡◌, ℕ, suc, ◌+◌, ◌-◌, ◌*◌, ◌/◌, ◌%◌, ◌<◌, ◌≤◌, true, leb, eqb, List, [], ◌∷◌, ◌++◌, length, take, drop, Result, Ok, Err, refl, sym, ap, subst, ◌∙◌, length-append, arith, inl, inr, ◌⊎◌}
+use Rattle.std.proofs.Common.{◌≡◌, ℕ, suc, ◌+◌, ◌-◌, ◌*◌, ◌/◌, ◌%◌, ◌<◌, ◌≤◌, true, leb, eqb, List, [], ◌∷◌, ◌++◌, length, take, drop, Result, Ok, Err, refl, sym, ap, subst, ◌∙◌, append_assoc, length-append, arith, inl, inr, ◌⊎◌}
 use Rattle.std.specs.Prelude.{◌&&◌}
 use Rattle.std.specs.List.{flat_map, AllByRecursion}
 use Rattle.std.proofs.lemmas.Bool.{leb-true, le-leb, eqb-true, eq-eqb, and_parts, and_from, or_cases, or_left, or_right, cases_lt}
 use Rattle.exact_octets.specs.declared.alphabet.Alphabet.TheVariants.{Any as AnyOctet}
 use Rattle.exact_octets.specs.Numbers.{number}
 use Rattle.exact_octets.specs.Spelling.{short}
-use Rattle.std.proofs.lemmas.List.{take_at, drop_at}
+use Rattle.std.proofs.lemmas.List.{append-nil, take_at, drop_at}
 use Rattle.exact_octets.specs.declared.read_fault.ReadFault.{ReadFault}
 use Rattle.exact_octets.specs.declared.read_fault.ReadFault.TheVariants as faults
 use Rattle.exact_octets.specs.Reading.{◌>>=◌, Fails, behind, octet_at, filled_at}
@@ -15,9 +15,9 @@ use Rattle.exact_octets.proofs.Digits.{up_to_reads}
 use Rattle.exact_octets.proofs.Fields.{text_reads}
 use Rattle.exact_octets.proofs.Filled.{Fill, filled_reads}
 use Rattle.smpp_wire.specs.declared.room.Room.TheVariants.{From, Tlvs}
-use Rattle.smpp_wire.specs.Grammar.{Tlv, IsTlv, tlv, AreTlvs}
+use Rattle.smpp_wire.specs.Grammar.{tlv_of, Tlv, IsTlv, tlv, AreTlvs}
 use Rattle.smpp_wire.specs.Room.{fits}
-use Rattle.smpp_wire.specs.Reading.{is_high_len, is_value_len, value_len_at, tlv_of, tlv_at, tlvs_at, is_message_len, short_message_at}
+use Rattle.smpp_wire.specs.Reading.{is_high_len, is_value_len, value_len_at, tlv_at, tlvs_at, is_message_len, short_message_at}
 use Rattle.smpp_wire.proofs.Rooms.{Fits, fits_means, fits_tests}
 use Rattle.smpp_wire.proofs.Parts.{Leaves, IsPart, IsNone, Fills, part_of}
 
@@ -110,7 +110,7 @@ tlv_reads left le =
       back = λ t leaves. ((t.tag, (length t.value, t.value)), (omega (arith, leaves.0.0), (value_len_of left t leaves, (refl, λ k d lt. tt))), refl, refl);
     })
 
-tlvs_can : (ts : List Tlv) → AllByRecursion IsTlv ts → Fits Tlvs (length (flat_map tlv ts))
+pub tlvs_can : (ts : List Tlv) → AllByRecursion IsTlv ts → Fits Tlvs (length (flat_map tlv ts))
 tlvs_can [] good = inl refl
 tlvs_can (t ∷ ts) good = inr (omega (arith, tlv_len t, length-append (tlv t) (flat_map tlv ts)))
 
@@ -211,3 +211,17 @@ tlvs_whole left octets after f are e =
     let front : take left octets ≡ flat_map tlv found.0 = ap (take left) answer.1 ∙ take_at (flat_map tlv found.0) after left answer.0.1 in
     let back : drop left octets ≡ after = ap (drop left) answer.1 ∙ drop_at (flat_map tlv found.0) after left answer.0.1 in
     (omega (arith, ap length answer.1, length-append (flat_map tlv found.0) after, answer.0.1), rw (front, back) read)
+
+-- ---- one parameter more
+
+all_last : (ts : List Tlv) (t : Tlv) → AllByRecursion IsTlv ts → IsTlv t → AllByRecursion IsTlv (ts ++ t ∷ [])
+all_last [] t good is = (is, tt)
+all_last (u ∷ ts) t good is = (good.0, all_last ts t good.1 is)
+
+tlvs_last : (ts : List Tlv) (t : Tlv) → flat_map tlv (ts ++ t ∷ []) ≡ flat_map tlv ts ++ tlv t
+tlvs_last [] t = append-nil (tlv t)
+tlvs_last (u ∷ ts) t = ap (λ (xs : List ℕ). tlv u ++ xs) (tlvs_last ts t) ∙ sym (append_assoc (tlv u) (flat_map tlv ts) (tlv t))
+
+-- behind whole parameters a further one makes whole parameters
+pub tlvs_more : (octets : List ℕ) (t : Tlv) → IsTlv t → AreTlvs octets → AreTlvs (octets ++ tlv t)
+tlvs_more octets t is are = (are.0 ++ t ∷ [], all_last are.0 t are.1 is, tlvs_last are.0 t ∙ ap (λ (xs : List ℕ). xs ++ tlv t) are.2)

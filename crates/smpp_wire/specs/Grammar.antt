@@ -32,6 +32,9 @@ pub record Tlv : Type 0 where
   pub tag : ℕ
   pub value : List ℕ
 
+abbrev pub tlv_of : ℕ → List ℕ → Tlv
+tlv_of tag value = record { tag = tag; value = value }
+
 abbrev pub IsTlv : Tlv → Type 0
 IsTlv t = (t.tag < 2 ^ 16) × (length t.value < 2 ^ 16)
 

@@ -3,6 +3,7 @@ pub use Rattle.exact_octets.specs.Spelling
 pub use Rattle.exact_octets.specs.Numbers
 pub mod Command
 pub mod Grammar
+pub mod Tlvs
 pub mod Answers
 pub mod Stream
 pub mod Room

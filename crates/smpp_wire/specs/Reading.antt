@@ -13,7 +13,7 @@ use Rattle.smpp_wire.specs.declared.row.Row.TheVariants as row
 use Rattle.smpp_wire.specs.declared.text.Sizes.{Sizes}
 use Rattle.smpp_wire.specs.declared.limits.TheConstants.{HEADER_LEN, MOST_FRAME, INTERFACE_VERSION}
 use Rattle.smpp_wire.specs.Command.{BindFields, MessageFields, Fields, Bind, BindReply, Message, SubmitReply, DeliverReply, Nothing, Any, Command}
-use Rattle.smpp_wire.specs.Grammar.{Tlv, tlv, row_of}
+use Rattle.smpp_wire.specs.Grammar.{Tlv, tlv_of, tlv, row_of}
 use Rattle.smpp_wire.specs.Room.{fits, room_of, up_to, times, may_end, may_go_on}
 
 -- ---- fields
@@ -43,9 +43,6 @@ is_high_len left high = nat_le (high * 256 + 4) left
 
 unfoldable pub value_len_at : ℕ → Reader ℕ
 value_len_at left = made (λ x. x.0 * 256 + x.1) (both (octet_at (is_high_len left)) (λ high. octet_at (λ low. is_value_len left (high * 256 + low))))
-
-abbrev pub tlv_of : ℕ → List ℕ → Tlv
-tlv_of tag value = record { tag = tag; value = value }
 
 unfoldable pub tlv_at : ℕ → Reader Tlv
 tlv_at left =

@@ -28,4 +28,5 @@ mod write;
 
 pub use frame::{Frame, read_frame};
 pub use pdu::{Body, Pdu};
+pub use tlv::{tlv_value, write_tlv};
 pub use write::write_pdu;

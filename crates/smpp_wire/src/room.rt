@@ -3,6 +3,8 @@
 ghost use Rattle.std.specs.Prelude.{◌≡◌};
 ghost use Rattle.smpp_wire.specs.Room.{fits as fits_in_specs};
 
+use crate::limits::EMPTY_TLV_LEN;
+
 /// How many octets can be filled.
 #[derive(Clone, Copy)]
 pub(crate) enum Room {
@@ -10,7 +12,7 @@ pub(crate) enum Room {
     From(u8),
     /// A number between two, or one of them.
     Between(u8, u8),
-    /// As many as whole TLVs have: none, or at least the four of an empty one.
+    /// As many as whole TLVs have: none, or at least those of an empty one.
     Tlvs,
 }
 
@@ -22,7 +24,7 @@ impl Room {
         match self {
             Room::From(least) => usize::from(least) <= left,
             Room::Between(least, most) => usize::from(least) <= left && left <= usize::from(most),
-            Room::Tlvs => left == 0 || 4 <= left,
+            Room::Tlvs => left == 0 || EMPTY_TLV_LEN <= left,
         }
     }
 }

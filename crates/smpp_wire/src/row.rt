@@ -38,7 +38,8 @@ pub(crate) fn row_of(id: u32) -> Row
 }
 
 impl Row {
-    /// How many octets its bodies have.
+    /// How many octets its bodies have: at least a 00 for each text, at most the greatest sizes of its texts and times, and one for each other
+    /// octet; where TLVs may stand, any greater number.
     pub(crate) fn room(self) -> Room
         ensures { result ≡ room_in_specs self }
     {

@@ -7,6 +7,7 @@ ghost use Rattle.smpp_wire.specs.Grammar.{ended};
 ghost use Rattle.smpp_wire.specs.Room.{up_to as up_to_in_specs, times as times_in_specs, fits, is_size, may_end as may_end_in_specs, may_go_on as may_go_on_in_specs};
 ghost use Rattle.smpp_wire.specs.Reading.{text_at as text_front};
 
+use crate::limits::EMPTY_TLV_LEN;
 use crate::room::Room;
 use exact_octets::ReadFault;
 use kn_base::{Memory, Octets};
@@ -68,7 +69,7 @@ fn may_go_on(sizes: Sizes, room: Room, left: usize, before: usize) -> bool
         Room::Between(least, most) => {
             size + usize::from(least) <= left && left <= longest + usize::from(most)
         }
-        Room::Tlvs => (size <= left && left <= longest) || size + 4 <= left,
+        Room::Tlvs => (size <= left && left <= longest) || size + EMPTY_TLV_LEN <= left,
     }
 }
 

@@ -1,4 +1,4 @@
-//! The body of bind_transceiver (SMPP 3.4, 4.1.5).
+//! The body of bind_transceiver (SMPP 3.4, 4.1.5). The room of each text is the least and the greatest size of what stands behind it.
 
 ghost use Rattle.std.specs.Prelude.{◌≡◌, ◌++◌, IfErr, OnOk, OnErr};
 ghost use Rattle.exact_octets.specs.Growth.{Keeps};

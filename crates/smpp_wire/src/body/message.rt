@@ -1,4 +1,5 @@
-//! The body of submit_sm (SMPP 3.4, 4.4.1) and deliver_sm (4.6.1).
+//! The body of submit_sm (SMPP 3.4, 4.4.1) and deliver_sm (4.6.1). The room of each text is the least size of what stands behind it: TLVs may
+//! make it any greater one.
 
 ghost use Rattle.std.specs.Prelude.{◌≡◌, ◌≤◌, ◌++◌, ◌∷◌, [], length, IfErr, OnOk, OnErr};
 ghost use Rattle.exact_octets.specs.Growth.{Keeps};

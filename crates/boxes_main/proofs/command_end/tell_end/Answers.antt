@@ -1,6 +1,5 @@
 use Rattle.std.proofs.Common.{ap, sym, ◌∙◌, subst}
 use Rattle.boxes_main.specs.Failure.{Tells}
-use Rattle.boxes_main.specs.House.{Rooms}
 use Rattle.boxes_main.proofs.command_end.tell_end.Goals as goal
 
 pub returns-clause-rooms : goal.returns-clause-rooms

@@ -19,6 +19,6 @@ returns-clause-reads g c =
     let house = c.args.house.now in
     let lent = record (rooms house) { shelf = c.read_config.new.shelf } in
     let reads : Reads g.H.S.Shelf.files g.H.S.Shelf.faults c.args.name.now c.shelf.result.now c.read_config.new.shelf c.read_config.result =
-    record { read = c.read_config.ensures.read; missed = c.read_config.ensures.missed } in
+    record { read = c.read_config.ensures.read; missed = c.read_config.ensures.missed; kept = c.read_config.ensures.kept; not_fewer = c.read_config.ensures.not_fewer } in
     subst (λ x. Reads g.H.S.Shelf.files g.H.S.Shelf.faults c.args.name.now (rooms house).shelf x c.read_config.result) (sym (ap (λ r. r.shelf) (g.met.H.House.rooms_with house lent)))
     (subst (λ x. Reads g.H.S.Shelf.files g.H.S.Shelf.faults c.args.name.now x c.read_config.new.shelf c.read_config.result) c.shelf.ensures.value reads)

@@ -1,4 +1,4 @@
-use Rattle.std.proofs.Common.{◌≡◌, decimal, codes, ◌∙◌, refl}
+use Rattle.std.proofs.Common.{◌∙◌}
 use Rattle.boxes_main.proofs.Printed.{row-behind}
 use Rattle.boxes_main.proofs.printing.put_row.Goals as goal
 

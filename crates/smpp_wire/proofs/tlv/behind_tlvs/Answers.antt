@@ -2,8 +2,8 @@ use Rattle.std.proofs.Common.{[], ◌∷◌, ◌++◌, ◌+◌, length, ap, arit
 use Rattle.std.proofs.lemmas.Result.{err_from_is_err_and}
 use Rattle.exact_octets.specs.Reading.{behind, filled_at}
 use Rattle.exact_octets.proofs.Loops.{filling_begins, filling_more, filling_fails, filling_ends}
-use Rattle.smpp_wire.specs.Grammar.{tlv}
-use Rattle.smpp_wire.specs.Reading.{tlv_of, tlv_at}
+use Rattle.smpp_wire.specs.Grammar.{tlv_of, tlv}
+use Rattle.smpp_wire.specs.Reading.{tlv_at}
 use Rattle.smpp_wire.proofs.Tlvs.{tlv_len, behind_fails}
 use Rattle.smpp_wire.proofs.tlv.behind_tlvs.Goals as goal
 
