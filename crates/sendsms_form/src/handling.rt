@@ -63,7 +63,11 @@ fn smsc_by<'a>(forced: &'a [u8], given: &'a [u8], own: &'a [u8]) -> Option<&'a [
     if given.is_empty() {
         return Some(own);
     }
-    if given.len() <= MOST_NAME { Some(given) } else { None }
+    if given.len() <= MOST_NAME {
+        Some(given)
+    } else {
+        None
+    }
 }
 
 // The number of a value, 0 of none, unless it is outside its range.

@@ -44,7 +44,13 @@ pub(crate) fn read_parties(
         return Err(Answer::BadRequest(Spot::To));
     };
     let given = value(pairs, b"from");
-    let Some(sender) = sender_by(alloc, &user.faked_sender, given, &user.default_sender, common)?
+    let Some(sender) = sender_by(
+        alloc,
+        &user.faked_sender,
+        given,
+        &user.default_sender,
+        common,
+    )?
     else {
         return Err(Answer::BadRequest(Spot::From));
     };
