@@ -10,7 +10,7 @@ use Rattle.config_groups.specs.declared.settings.user.User.{User}
 use Rattle.http_text.specs.declared.answer.Answer.{Answer}
 use Rattle.sendsms_http.specs.declared.form.Form.{Form}
 use Rattle.sendsms_http.specs.declared.form.Variable.TheVariants.{Username, From, To, Text}
-use Rattle.sendsms_http.specs.declared.form.pairs.Pair.{Pair}
+use Rattle.sendsms_form.specs.declared.pairs.Pair.{Pair}
 use Rattle.sendsms_http.specs.Form.{is_form, is_held, variables, value, form_of, read_form, message, is_number, is_text, is_text_octet}
 
 digit_says : (octet : ℕ) → is_ascii_digit octet ≡ true → IsDigit octet

@@ -22,7 +22,7 @@ use Rattle.sendsms_http.specs.Session.{Exchange, ComesTo, RefusesOctets, WantsMe
 use Rattle.sendsms_http.specs.Users.{user_of}
 use Rattle.sendsms_http.specs.Visit.{Asks, Owes, LooksAt, IsAtEnd}
 use Rattle.sendsms_http.specs.declared.visit.Phase.TheVariants.{Submitting}
-use Rattle.sendsms_http.specs.declared.form.pairs.Pair.{Pair}
+use Rattle.sendsms_form.specs.declared.pairs.Pair.{Pair}
 use Rattle.sendsms_http.specs.declared.visit.Visit.{Visit}
 use Rattle.sendsms_http.specs.declared.visit.VisitWish.{VisitWish}
 use Rattle.sendsms_http.specs.declared.visit.VisitWish.TheVariants.{Say}

@@ -1,9 +1,9 @@
 -- The form of a sendsms request: its variables, what each may hold, and the message that it asks for.
-use Rattle.std.specs.Prelude.{ℕ, Bool, true, false, ◌&&◌, ◌||◌, ◌==◌, nat_le, List, [], ◌∷◌, length, map, count_by, codes, bytes_eq, None, Result, Ok, Err, if◌then◌else◌}
+use Rattle.std.specs.Prelude.{ℕ, Bool, true, false, ◌&&◌, ◌||◌, ◌==◌, nat_le, List, [], ◌∷◌, length, count_by, codes, bytes_eq, None, Result, Ok, Err, if◌then◌else◌}
 use Rattle.std.specs.List.{find, list_all}
 use Rattle.std.specs.Option.{option_map_or}
 use Rattle.std.specs.Char.{is_ascii_digit, is_ascii_alphanumeric}
-use Rattle.form_urlencoded.specs.Form.{raw_pairs, decode, space}
+use Rattle.form_urlencoded.specs.Form.{space}
 use Rattle.kn_base.specs.declared.charset.Charset.TheVariants.{Utf8}
 use Rattle.sms_record.specs.declared.address.Address.TheVariants.{Number}
 use Rattle.sms_record.specs.declared.coding.Coding.TheVariants.{Seven}
@@ -15,7 +15,7 @@ use Rattle.http_text.specs.declared.answer.spot.Spot.TheVariants.{NotBuilt}
 use Rattle.sendsms_http.specs.declared.form.Form.{Form}
 use Rattle.sendsms_http.specs.declared.form.Variable.{Variable}
 use Rattle.sendsms_http.specs.declared.form.Variable.TheVariants.{Username, Password, From, To, Text}
-use Rattle.sendsms_http.specs.declared.form.pairs.Pair.{Pair}
+use Rattle.sendsms_form.specs.declared.pairs.Pair.{Pair}
 
 -- ---- what each variable may hold
 
@@ -52,14 +52,6 @@ abbrev pub variables : List Variable
 variables = Username ∷ Password ∷ From ∷ To ∷ Text ∷ []
 
 -- ---- the variables of a query
-
--- a name and a value as the octets that they stand for: `+` is a space, an escape is its octet, any other `%` stays (URL Standard 5.1)
-abbrev pub decoded : List ℕ × List ℕ → Pair
-decoded (name, value) = record { name = decode name; value = decode value }
-
--- the names and values of a query, in their order
-abbrev pub pairs : List ℕ → List Pair
-pairs query = map decoded (raw_pairs query)
 
 -- the pair has the name of this variable
 abbrev pub is_of : Variable → Pair → Bool

@@ -8,8 +8,9 @@ use Rattle.http_text.specs.declared.answer.Answer.TheVariants.{BadRequest, Unkno
 use Rattle.http_text.specs.declared.answer.spot.Spot.TheVariants.{Head, Method, Body}
 use Rattle.http_text.specs.declared.head.Head as heads
 use Rattle.sendsms_http.specs.declared.form.Form.{Form}
-use Rattle.sendsms_http.specs.declared.form.pairs.Pair.{Pair}
-use Rattle.sendsms_http.specs.Form.{pairs, read_form, message}
+use Rattle.sendsms_form.specs.declared.pairs.Pair.{Pair}
+use Rattle.sendsms_form.specs.Pairs.{pairs}
+use Rattle.sendsms_http.specs.Form.{read_form, message}
 use Rattle.sendsms_http.specs.Target.{is_path, path_of, query_of}
 use Rattle.sendsms_http.specs.Users.{user_of}
 

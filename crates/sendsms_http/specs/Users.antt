@@ -3,7 +3,7 @@ use Rattle.std.specs.Prelude.{ℕ, Bool, ◌&&◌, List, [], ◌∷◌, codes, b
 use Rattle.std.specs.List.{find}
 use Rattle.std.specs.Option.{option_map_or}
 use Rattle.config_groups.specs.declared.settings.user.User.{User}
-use Rattle.sendsms_http.specs.declared.form.pairs.Pair.{Pair}
+use Rattle.sendsms_form.specs.declared.pairs.Pair.{Pair}
 
 -- the pair has this name
 abbrev pub is_named : List ℕ → Pair → Bool

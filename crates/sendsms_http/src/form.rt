@@ -5,12 +5,10 @@ ghost use Rattle.std.specs.Char.{is_ascii_digit};
 ghost use Rattle.std.specs.List.{find, list_all};
 ghost use Rattle.sendsms_http.specs.Form as spec;
 
-mod pairs;
-
 use config_groups::User;
 use http_text::{Answer, Spot};
 use kn_base::{Charset, Memory, Octets};
-pub(crate) use pairs::{Pair, read_pairs};
+use sendsms_form::Pair;
 use sms_record::{Address, Coding, Sms};
 use std::alloc::Global;
 

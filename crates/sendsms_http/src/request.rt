@@ -3,15 +3,16 @@
 ghost use Rattle.std.specs.Prelude.{◌≡◌, ◌<◌, ◌≤◌, ◌^◌, ◌⊎◌, [], ◌∷◌, IfOk, IfErr, All, length};
 ghost use Rattle.config_groups.specs.Ranges.{AreSettings, IsUser};
 ghost use Rattle.sms_record.specs.Record.{IsSms};
-ghost use Rattle.sendsms_http.specs.Form.{pairs};
+ghost use Rattle.sendsms_form.specs.Pairs.{pairs};
 ghost use Rattle.sendsms_http.specs.Request as spec;
 
-use crate::form::{Pair, read_form, read_pairs};
+use crate::form::read_form;
 use crate::target::{cut_target, is_path};
 use crate::users::user_of;
 use config_groups::{Settings, User};
 use http_text::{Answer, Head, Spot};
 use kn_base::{Items, Memory};
+use sendsms_form::{Pair, read_pairs};
 use sms_record::Sms;
 use std::alloc::Global;
 

@@ -4,8 +4,8 @@ ghost use Rattle.std.specs.Prelude.{◌≡◌, option_copied};
 ghost use Rattle.std.specs.List.{find};
 ghost use Rattle.sendsms_http.specs.Users as spec;
 
-use crate::form::Pair;
 use config_groups::User;
+use sendsms_form::Pair;
 
 /// The first user with the name and the password that a request gives.
 pub(crate) fn user_of<'a>(users: &'a [User], pairs: &[Pair]) -> Option<&'a User>

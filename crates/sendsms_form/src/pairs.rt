@@ -1,8 +1,9 @@
 //! The names and values of a query, as a web form writes them (URL Standard 5.1).
 
-ghost use Rattle.std.specs.Prelude.{◌≡◌, IfOk, map};
+ghost use Rattle.std.specs.Prelude.{◌≡◌, IfOk, map, option_copied};
+ghost use Rattle.std.specs.List.{find};
 ghost use Rattle.form_urlencoded.specs.Form.{decode, plus_to_space};
-ghost use Rattle.sendsms_http.specs.Form as spec;
+ghost use Rattle.sendsms_form.specs.Pairs as spec;
 
 use form_urlencoded::raw_pairs;
 use kn_base::{Items, Memory, Octets};
@@ -11,13 +12,13 @@ use std::alloc::Global;
 
 /// A name and a value, as the octets that they stand for.
 #[derive(Drop)]
-pub(crate) struct Pair {
-    pub(crate) name: Octets,
-    pub(crate) value: Octets,
+pub struct Pair {
+    pub name: Octets,
+    pub value: Octets,
 }
 
-// The names and values of a query, in their order.
-pub(crate) fn read_pairs(alloc: Global, query: &[u8]) -> Result<Items<Pair>, Memory>
+/// The names and values of a query, in their order: `+` is a space, an escape its octet, and any other `%` stays.
+pub fn read_pairs(alloc: Global, query: &[u8]) -> Result<Items<Pair>, Memory>
     ensures { IfOk result (λ given. given ≡ spec.pairs query.now) }
 {
     let mut pairs = Items::new(alloc);
@@ -54,4 +55,21 @@ fn with_spaces(alloc: Global, encoded: &[u8]) -> Result<Vec<u8>, Memory>
         .iter()
         .map(|&octet| if octet == b'+' { b' ' } else { octet });
     Ok(spaced.collect(alloc)?)
+}
+
+// The first value under a name, empty where there is none.
+pub(crate) fn value<'a>(pairs: &'a [Pair], name: &[u8]) -> &'a [u8]
+    ensures { result.now ≡ spec.value name.now pairs.now }
+{
+    match first(pairs, name) {
+        Some(pair) => pair.value.as_slice(),
+        None => &[],
+    }
+}
+
+// The first pair of a name.
+fn first<'a>(pairs: &'a [Pair], name: &[u8]) -> Option<&'a Pair>
+    ensures { option_copied result ≡ find (spec.is_named name.now) pairs.now }
+{
+    pairs.iter().find(|pair| pair.name.as_slice() == name)
 }

@@ -1,7 +1,7 @@
 use Rattle.std.proofs.Common.{◌≡◌, ◌++◌, map}
 use Rattle.form_urlencoded.specs.Parse.{raw_pairs_left}
-use Rattle.sendsms_http.specs.Form.{pairs, decoded}
-use Rattle.sendsms_http.proofs.form.pairs.read_pairs.Given as goal
+use Rattle.sendsms_form.specs.Pairs.{pairs, decoded}
+use Rattle.sendsms_form.proofs.pairs.read_pairs.Given as goal
 
 -- the pairs so far, and those that are left, are those of the query
 abbrev pub invariant-loop-name : goal.invariant-loop-name
