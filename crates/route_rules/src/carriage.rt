@@ -84,8 +84,8 @@ fn goes_by(kind: LinkKind, coding: Coding, header: usize, body: &[u8]) -> bool
 
 /// Whether a link of this protocol can carry a message.
 ///
-/// It can exactly where the receiver is a number, the sender is a number or a text of 1 to 11 letters, digits and marks, the header
-/// that goes out has at most 140 octets, and the body has at most the units that fit beside it: septets, octets or UCS-2 units. The
+/// The receiver has to be a number, and the sender one too, or a short text of letters, digits and marks (up to eleven); the header
+/// that goes out may have 140 octets, and the body as many units as fit beside it: septets, octets or UCS-2 units. The
 /// header that goes out is the message's own, with 5 octets more where the message is one of several parts, or 6 where it has none of
 /// its own. Over CIMD2 septets go as text where each shows a letter, a digit or a mark; others go as UCS-2, and are carried where that
 /// form and the header have at most 140 octets together. It takes no memory.

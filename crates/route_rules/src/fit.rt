@@ -22,12 +22,12 @@ pub enum Fit {
 /// How well a link suits a message. The first of these rules that says so counts:
 ///
 /// 1. A link that can't carry the message doesn't suit it (`carries`).
-/// 2. With allowed ids, a message whose SMSC id isn't among them doesn't go by it; without, one whose id is denied doesn't.
+/// 2. Where ids are allowed, the message's own SMSC id must be one of them; where none are, it must not be a denied one.
 /// 3. With allowed prefixes alone, a receiver must begin with one of them; with denied ones alone, with none of them; with both, a
 ///    receiver that begins with a denied one must begin with an allowed one too.
 /// 4. A preferred id or a preferred prefix makes the link preferred.
 ///
-/// A prefix is compared with the receiver as it is written, with its `+`. It takes no memory.
+/// A prefix stands for the receiver's first characters, of which a `+` is one. It takes no memory.
 pub fn usable(rule: &LinkRule, sms: &Sms) -> Fit
     ensures { result ≡ spec.fit rule.now sms.now }
 {

@@ -70,8 +70,9 @@ fn first_of_fewest(
 
 /// The number of the link that sends a message, counted from 0 in the order of the rules.
 ///
-/// The pool is the usable links that are up, only the preferred ones if there is any. The answer is the first of those with the fewest
-/// messages in flight. `up` says of each link whether it is up, `flight` how many messages it has in flight. It takes no memory.
+/// Of the links that suit the message and are up, those that prefer it go first: where one does, no other counts. Among the rest it is
+/// the one with the least in flight, and of several such the one that stands first. `up` says of each link whether it is up, `flight` how
+/// many messages it has in flight. `None` exactly where no link that is up suits. It takes no memory.
 pub fn assign(rules: &Rules, up: &[bool], flight: &[u64], sms: &Sms) -> Option<u32>
     requires few { length rules.now.links < 2 ^ 32 }
     requires ups { length up.now ≡ length rules.now.links }

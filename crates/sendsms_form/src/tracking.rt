@@ -23,8 +23,8 @@ const MOST_NAME: usize = 64;
 /// What a requester wants to hear of a message.
 #[derive(Drop)]
 pub struct Tracking {
-    /// Which reports are wanted, a bit each: 1 delivered to the phone, 2 not delivered to the phone, 4 queued on the SMSC, 8 delivered
-    /// to the SMSC, 16 not delivered to the SMSC. 0 where there is no URL.
+    /// Which reports are wanted, a bit each: 1 that the phone has it, 2 that the phone won't get it, 4 that the centre keeps it, 8 that the
+    /// centre took it, 16 that the centre refused it. 0 where there is no URL.
     pub mask: u8,
     /// The URL that a report calls, empty where none is given.
     pub url: Octets,
