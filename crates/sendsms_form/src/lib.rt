@@ -19,6 +19,6 @@ mod tracking;
 pub use form::{Form, read_form};
 pub use handling::Handling;
 pub use manner::Manner;
-pub use pairs::{Pair, read_pairs};
+pub use pairs::{Pair, read_pairs, value};
 pub use parties::Parties;
 pub use tracking::Tracking;

@@ -57,8 +57,8 @@ fn with_spaces(alloc: Global, encoded: &[u8]) -> Result<Vec<u8>, Memory>
     Ok(spaced.collect(alloc)?)
 }
 
-// The first value under a name, empty where there is none.
-pub(crate) fn value<'a>(pairs: &'a [Pair], name: &[u8]) -> &'a [u8]
+/// The first value under a name, empty where there is none.
+pub fn value<'a>(pairs: &'a [Pair], name: &[u8]) -> &'a [u8]
     ensures { result.now ≡ spec.value name.now pairs.now }
 {
     match first(pairs, name) {

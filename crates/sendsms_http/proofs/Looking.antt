@@ -83,7 +83,7 @@ refused_at_end settings now [] visit wish none some more is = absurd (some refl)
 refused_at_end settings now (octet ∷ octets) visit wish none some more is =
     subst (IsAtEnd settings now (octet ∷ octets) visit) (sym is) (owes_refusal settings true now (octet ∷ octets) visit none some more, refl)
 
-or_false : (b : Bool) → (b || false) ≡ b
+pub or_false : (b : Bool) → (b || false) ≡ b
 or_false true = refl
 or_false false = refl
 

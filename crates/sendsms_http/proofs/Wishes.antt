@@ -31,12 +31,9 @@ use Rattle.sendsms_http.specs.declared.visit.VisitGiven.TheVariants as given_is
 use Rattle.sendsms_http.specs.declared.visit.VisitWish.{VisitWish}
 use Rattle.sendsms_http.specs.declared.visit.VisitWish.TheVariants.{Listen, Submit, Say, Over}
 use Rattle.sendsms_http.proofs.Exchanges.{times_last, deeds_last}
+use Rattle.sendsms_http.proofs.Looking.{or_false}
 use Rattle.sendsms_http.proofs.SessionLemmas.{stands_said, has_read, has_passed}
 use Rattle.sendsms_http.proofs.Endings.{none_rose, none_fell, serves_silent, serves_closed, serves_cut, serves_failed, serves_quiet}
-
-or_false : (b : Bool) → (b || false) ≡ b
-or_false true = refl
-or_false false = refl
 
 -- where the connection isn't closed, nothing closes it
 not_last : (a b c : Bool) → (a || (b || c)) ≡ false → c ≡ false
