@@ -1,2 +1,10 @@
 pub mod Acceptor
+pub mod Fates
+pub mod Fold
+pub mod Lawful
+pub mod Replies
 pub mod Reply
+pub mod Routing
+pub mod Numbers
+pub mod Settling
+pub mod State

@@ -6,9 +6,13 @@
 #![tactic(auto)]
 
 mod acceptor;
+mod arrival;
 mod reply;
 mod totals;
+mod waiting;
 
 pub use acceptor::Acceptor;
+pub use arrival::Arrival;
 pub use reply::{Refusal, Reply};
 pub use totals::Totals;
+pub use waiting::Waiting;

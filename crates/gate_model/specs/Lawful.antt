@@ -1,0 +1,152 @@
+-- Which entries may happen to a state, and which of them are refused.
+use Rattle.std.specs.Prelude.{◌≡◌, ◌≢◌, ℕ, Bool, ◌+◌, ◌*◌, ◌<◌, ◌≤◌, ◌^◌, nat_lt, ◌&&◌, not, ◌==◌, List, [], ◌∷◌, length, All, Option, Some, None, IsSomeAnd, IsTrue, IsFalse, slice_get, if◌then◌else◌, true, false, ⊤}
+use Rattle.std.specs.List.{list_any, position_from}
+use Rattle.std.specs.Option.{option_or, option_map}
+use Rattle.sms_record.specs.declared.limits.TheConstants.{MOST_MESSAGES}
+use Rattle.sms_record.specs.declared.sms.Sms.{Sms}
+use Rattle.route_rules.specs.declared.rules.Rules.{Rules}
+use Rattle.route_rules.specs.Routes.{routable}
+use Rattle.gate_entries.specs.declared.cause.Cause.{Cause}
+use Rattle.gate_entries.specs.declared.cause.Cause.TheVariants.{Centre, Expired}
+use Rattle.gate_entries.specs.declared.cause.DropCause.{DropCause}
+use Rattle.gate_entries.specs.declared.cause.DropCause.TheVariants.{BadUrl, Tries}
+use Rattle.gate_entries.specs.declared.recorded.Recorded.{Recorded}
+use Rattle.gate_entries.specs.declared.recorded.Recorded.TheVariants.{Accept, Acked, Rejected, Reported, Arrived, Answered, Called, CallDropped}
+use Rattle.gate_entries.specs.declared.passing.Passing.{Passing}
+use Rattle.gate_entries.specs.declared.passing.Passing.TheVariants.{Up, Down, Took, Returned, TookJob, ReturnedJob, TookArrival, ReturnedArrival}
+use Rattle.gate_model.specs.declared.reply.Refusal.{Refusal}
+use Rattle.gate_model.specs.declared.reply.Refusal.TheVariants.{NoRoute, Full}
+use Rattle.gate_model.specs.declared.waiting.Waiting.{Waiting}
+use Rattle.gate_model.specs.Numbers.{Has, value_under}
+use Rattle.gate_model.specs.State.{State, Job, flight}
+use Rattle.gate_model.specs.Fold.{Entry, recorded, passing}
+use Rattle.gate_model.specs.Routing.{due_time, link_for}
+
+-- ---- sound: what is asked of an entry that a store kept
+
+-- a reading of the clock
+abbrev pub IsTime : ℕ → Type 0
+IsTime time = time < 2 ^ 37
+
+-- messages of one entry, at least so many
+abbrev pub AreParts : (least : ℕ) → List Sms → Type 0
+AreParts least parts = (least ≤ length parts) × (length parts ≤ MOST_MESSAGES)
+
+-- a message is no longer worth sending, if an end was asked for
+abbrev pub HasExpired : (time : ℕ) → Waiting → Type 0
+HasExpired time waiting = (1 ≤ waiting.sms.validity) × (waiting.sms.time + 60 * waiting.sms.validity ≤ time)
+
+-- no number stands twice
+abbrev pub AreDistinct : List ℕ → Type 0
+AreDistinct [] = ⊤
+AreDistinct (number ∷ numbers) = IsFalse (list_any (λ other. other == number) numbers) × AreDistinct numbers
+
+-- distinct arrivals that are held, some and not too many
+abbrev pub AreArrivals : State → (arrivals : List ℕ) → Type 0
+AreArrivals state arrivals = (1 ≤ length arrivals) × (length arrivals ≤ 255) × All (Has state.arrivals) arrivals × AreDistinct arrivals
+
+-- A recorded entry names what the state holds, and its counts and times are within their bounds.
+abbrev pub IsSound : State → Recorded → Type 0
+IsSound state (Accept time parts) = AreParts 1 parts × IsTime time
+IsSound state (Acked message smsc foreign time) = Has state.waiting message × IsTime time
+IsSound state (Rejected message smsc (Centre code) time) = Has state.waiting message × IsTime time
+IsSound state (Rejected message smsc Expired time) = IsSomeAnd (value_under message state.waiting) (HasExpired time) × IsTime time
+IsSound state (Reported smsc foreign kind text time) = IsTime time
+IsSound state (Arrived smsc sms) = ⊤
+IsSound state (Answered arrivals parts time) =
+    AreArrivals state arrivals × AreParts 0 parts × IsTime time
+IsSound state (Called job status) = Has state.jobs job
+IsSound state (CallDropped job cause) = Has state.jobs job
+
+-- ---- lawful: what is asked of an entry that happens
+
+-- some link has taken the message
+abbrev pub IsLeased : State → (message : ℕ) → Type 0
+IsLeased state message = IsSomeAnd (value_under message state.waiting) (λ waiting. waiting.lease ≢ None)
+
+-- no link has
+abbrev pub IsFree : State → (message : ℕ) → Type 0
+IsFree state message = IsSomeAnd (value_under message state.waiting) (λ waiting. waiting.lease ≡ None)
+
+-- whether somebody has taken the arrival, or the job
+abbrev pub IsArrival : (leased : Bool) → State → (arrival : ℕ) → Type 0
+IsArrival leased state arrival = IsSomeAnd (value_under arrival state.arrivals) (λ a. a.leased ≡ leased)
+
+abbrev pub IsJob : (leased : Bool) → State → (job : ℕ) → Type 0
+IsJob leased state job = IsSomeAnd (value_under job state.jobs) (λ j. j.leased ≡ leased)
+
+-- a call is given up for its tries only after so many returns
+abbrev pub IsTriedOut : DropCause → Job → Type 0
+IsTriedOut BadUrl job = ⊤
+IsTriedOut Tries job = 9 ≤ job.returns
+
+-- what a recorded entry needs besides being sound: whoever ends a thing has taken it
+abbrev pub HoldsLease : State → Recorded → Type 0
+HoldsLease state (Accept time parts) = ⊤
+HoldsLease state (Acked message smsc foreign time) = IsLeased state message
+HoldsLease state (Rejected message smsc (Centre code) time) = IsLeased state message
+HoldsLease state (Rejected message smsc Expired time) = IsFree state message
+HoldsLease state (Reported smsc foreign kind text time) = ⊤
+HoldsLease state (Arrived smsc sms) = ⊤
+HoldsLease state (Answered arrivals parts time) = All (IsArrival true state) arrivals
+HoldsLease state (Called job status) = IsJob true state job
+HoldsLease state (CallDropped job cause) = IsJob true state job × IsSomeAnd (value_under job state.jobs) (IsTriedOut cause)
+
+-- a link may take the message now
+abbrev pub MayTake : Rules → State → (link now : ℕ) → Waiting → Type 0
+MayTake rules state link now waiting = (waiting.lease ≡ None) × (due_time waiting.sms ≤ now) × (link_for rules state waiting.sms ≡ Some link)
+
+-- an entry that passes takes what is free, and gives back what was taken
+abbrev pub MayPass : Rules → State → Passing → Type 0
+MayPass rules state (Up link) = slice_get state.up link ≡ Some false
+MayPass rules state (Down link) = (slice_get state.up link ≡ Some true) × (flight state link ≡ 0)
+MayPass rules state (Took link message time) = IsSomeAnd (value_under message state.waiting) (MayTake rules state link time) × IsTime time
+MayPass rules state (Returned message) = IsLeased state message
+MayPass rules state (TookJob job) = IsJob false state job
+MayPass rules state (ReturnedJob job) = IsJob true state job
+MayPass rules state (TookArrival arrival) = IsArrival false state arrival
+MayPass rules state (ReturnedArrival arrival) = IsArrival true state arrival
+
+abbrev pub IsLawful : Rules → State → Entry → Type 0
+IsLawful rules state (recorded entry) = IsSound state entry × HoldsLease state entry
+IsLawful rules state (passing entry) = MayPass rules state entry
+
+-- ---- refused: entries that are lawful, and for which there is no link or no room
+
+-- the most entries that a store records
+abbrev pub most_entries : ℕ
+most_entries = 2 ^ 48
+
+-- the first of these parts that no link may carry, up or not
+abbrev pub without_route : Rules → List Sms → Option Refusal
+without_route rules parts = option_map (λ part. NoRoute part) (position_from (λ sms. not (routable rules sms)) 0 parts)
+
+-- there are parts, and with the messages that wait they are more than may wait
+abbrev pub past_queue : Rules → State → List Sms → Option Refusal
+past_queue rules state parts =
+    if nat_lt 0 (length parts) && nat_lt rules.outgoing (length state.waiting + length parts)
+    then Some (Full (length state.waiting) rules.outgoing) else None
+
+-- with one more, more arrivals are held than may be
+abbrev pub past_arrivals : Rules → State → Option Refusal
+past_arrivals rules state =
+    if nat_lt rules.incoming (length state.arrivals + 1) then Some (Full (length state.arrivals) rules.incoming) else None
+
+-- as many entries were recorded as ever may be
+abbrev pub past_entries : State → Option Refusal
+past_entries state = if nat_lt state.entries most_entries then None else Some (Full state.entries most_entries)
+
+-- for the parts of an entry
+abbrev pub refused_parts : Rules → State → List Sms → Option Refusal
+refused_parts rules state parts = option_or (without_route rules parts) (option_or (past_queue rules state parts) (past_entries state))
+
+-- why a recorded entry is refused, if it is
+abbrev pub refusal : Rules → State → Recorded → Option Refusal
+refusal rules state (Accept time parts) = refused_parts rules state parts
+refusal rules state (Acked message smsc foreign time) = past_entries state
+refusal rules state (Rejected message smsc cause time) = past_entries state
+refusal rules state (Reported smsc foreign kind text time) = past_entries state
+refusal rules state (Arrived smsc sms) = option_or (past_arrivals rules state) (past_entries state)
+refusal rules state (Answered arrivals parts time) = refused_parts rules state parts
+refusal rules state (Called job status) = past_entries state
+refusal rules state (CallDropped job cause) = past_entries state

@@ -1,0 +1,30 @@
+-- What is replied to an entry that was recorded.
+use Rattle.std.specs.Prelude.{ℕ, ◌+◌, Bool, true, false, ◌==◌, is_some, List, [], ◌∷◌, length, find}
+use Rattle.sms_record.specs.declared.sms.Sms.{Sms}
+use Rattle.route_rules.specs.declared.rules.Rules.{Rules}
+use Rattle.route_rules.specs.Routes.{pool}
+use Rattle.gate_entries.specs.declared.recorded.Recorded.{Recorded}
+use Rattle.gate_entries.specs.declared.recorded.Recorded.TheVariants.{Accept, Acked, Rejected, Reported, Arrived, Answered, Called, CallDropped}
+use Rattle.gate_model.specs.declared.reply.Reply.{Reply}
+use Rattle.gate_model.specs.declared.reply.Reply.TheVariants.{Accepted, Noted}
+use Rattle.gate_model.specs.State.{State, is_under}
+
+-- there is a first message, and no link that is up suits it
+abbrev pub is_queued : Rules → State → List Sms → Bool
+is_queued rules state [] = false
+is_queued rules state (first ∷ rest) = length (pool rules state.up first) == 0
+
+-- messages were accepted under the next numbers
+abbrev pub accepted : Rules → State → List Sms → Reply
+accepted rules state parts = Accepted (state.last_message + 1) (length parts) (is_queued rules state parts)
+
+-- the reply to an entry that is recorded in a state
+abbrev pub reply_to : Rules → State → Recorded → Reply
+reply_to rules state (Accept time parts) = accepted rules state parts
+reply_to rules state (Acked message smsc foreign time) = Noted true
+reply_to rules state (Rejected message smsc cause time) = Noted true
+reply_to rules state (Reported smsc foreign kind text time) = Noted (is_some (find (is_under smsc foreign) state.awaited))
+reply_to rules state (Arrived smsc sms) = Noted true
+reply_to rules state (Answered arrivals parts time) = accepted rules state parts
+reply_to rules state (Called job status) = Noted true
+reply_to rules state (CallDropped job cause) = Noted true

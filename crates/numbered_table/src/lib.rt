@@ -1,0 +1,2 @@
+//! Values under ascending numbers.
+#![tactic(auto)]
