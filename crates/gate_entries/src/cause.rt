@@ -1,19 +1,10 @@
-//! Why something was given up.
+//! Why a message won't be sent.
 
-/// Why a message was given up.
+/// The cause of a rejection.
 #[derive(Clone, Copy)]
 pub enum Cause {
-    /// Its centre refused it with this code.
+    /// The centre refused it for good, with this code of its own.
     Centre(u32),
-    /// It was no longer worth sending.
+    /// The time in which it was worth sending has passed.
     Expired,
-}
-
-/// Why the call of a URL was given up.
-#[derive(Clone, Copy)]
-pub enum DropCause {
-    /// It is no URL.
-    BadUrl,
-    /// It was tried often enough.
-    Tries,
 }

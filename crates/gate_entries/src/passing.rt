@@ -1,22 +1,22 @@
-//! Entries that no store keeps.
+//! What happens between the entries that are kept.
 
-/// What happens to a store while it runs, and is forgotten when it ends.
+/// A change that the gate knows of as long as it runs. None is kept: a store that is opened has no link up and nothing taken.
 #[derive(Clone, Copy)]
 pub enum Passing {
-    /// A link is up.
+    /// A link can send.
     Up { link: u32 },
-    /// A link is down.
+    /// A link can't send.
     Down { link: u32 },
-    /// A link takes a message.
+    /// A link took a message at a time in Unix seconds.
     Took { link: u32, message: u64, time: u64 },
-    /// A link gives a message back.
+    /// A message that a link took waits again.
     Returned { message: u64 },
-    /// A call is taken.
+    /// A job was taken.
     TookJob { job: u64 },
-    /// A call is given back.
+    /// A job that was taken waits again.
     ReturnedJob { job: u64 },
-    /// A message from a centre is taken.
+    /// An arrival was taken.
     TookArrival { arrival: u64 },
-    /// A message from a centre is given back.
+    /// An arrival that was taken waits again.
     ReturnedArrival { arrival: u64 },
 }

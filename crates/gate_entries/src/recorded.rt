@@ -1,58 +1,24 @@
-//! Entries that a store keeps.
+//! The entries that are kept.
 
-use crate::{Cause, DropCause};
-use kn_base::{Items, Octets};
-use sms_record::{Kind, Sms};
+use crate::{Accept, Acked, Answered, Arrived, CallDropped, Called, Rejected, Reported};
 
-/// What happens to a store and is kept.
+/// An entry of the gate's store (docs/FORMATS.md, "Entries").
 #[derive(Drop)]
 pub enum Recorded {
-    /// Messages were handed in.
-    Accept {
-        time: u64,
-        parts: Items<Sms>,
-    },
+    /// Messages were taken together.
+    Accept(Accept),
     /// A centre took a message.
-    Acked {
-        message: u64,
-        smsc: Octets,
-        foreign: Octets,
-        time: u64,
-    },
-    /// A message was given up.
-    Rejected {
-        message: u64,
-        smsc: Octets,
-        cause: Cause,
-        time: u64,
-    },
-    /// A centre reported on a message.
-    Reported {
-        smsc: Octets,
-        foreign: Octets,
-        kind: Kind,
-        text: Octets,
-        time: u64,
-    },
+    Acked(Acked),
+    /// A message won't be sent.
+    Rejected(Rejected),
+    /// A centre said what became of a message that it took.
+    Reported(Reported),
     /// A message came from a centre.
-    Arrived {
-        smsc: Octets,
-        sms: Sms,
-    },
-    /// Messages from centres were dealt with, and answered by these.
-    Answered {
-        arrivals: Items<u64>,
-        parts: Items<Sms>,
-        time: u64,
-    },
-    /// A URL was called.
-    Called {
-        job: u64,
-        status: u16,
-    },
-    /// The call of a URL was given up.
-    CallDropped {
-        job: u64,
-        cause: DropCause,
-    },
+    Arrived(Arrived),
+    /// Arrivals were dealt with, and these are their replies.
+    Answered(Answered),
+    /// The URL of a job was called.
+    Called(Called),
+    /// The URL of a job won't be called.
+    CallDropped(CallDropped),
 }

@@ -1,18 +1,19 @@
 -- What becomes of messages.
-use Rattle.std.specs.Prelude.{◌≡◌, ℕ, ◌+◌, ◌==◌, List, [], ◌∷◌, length, ⊤, if◌then◌else◌}
+use Rattle.std.specs.Prelude.{◌≡◌, ◌↔◌, ◌⊎◌, ℕ, ◌+◌, ◌<◌, ◌≤◌, ◌==◌, Bool, false, List, [], ◌∷◌, length, count_by, ⊤, if◌then◌else◌}
 use Rattle.route_rules.specs.declared.rules.Rules.{Rules}
 use Rattle.gate_entries.specs.declared.cause.Cause.{Cause}
 use Rattle.gate_entries.specs.declared.recorded.Recorded.{Recorded}
-use Rattle.gate_entries.specs.declared.recorded.Recorded.TheVariants.{Accept, Acked, Rejected, Reported, Arrived, Answered, Called, CallDropped}
+use Rattle.gate_entries.specs.declared.recorded.Recorded.TheVariants as entry
 use Rattle.gate_entries.specs.declared.passing.Passing.{Passing}
 use Rattle.gate_model.specs.Lawful.{IsLawful}
 use Rattle.gate_model.specs.State.{State}
-use Rattle.gate_model.specs.Fold.{Entry, recorded, passing, does}
+use Rattle.gate_model.specs.Fold.{Entry, recorded, passing, does, after}
+use Rattle.gate_model.specs.Numbers.{Has}
 
 -- a message was taken by its centre, or given up for a cause, or is still stored
 pub data Fate : Type 0 where
-  acked : Fate
-  rejected : Cause → Fate
+  taken : Fate
+  given_up : Cause → Fate
   stored : Fate
 
 -- the entries are lawful, each in the state that those before it left
@@ -20,23 +21,45 @@ abbrev pub AreLawful : Rules → State → List Entry → Type 0
 AreLawful rules state [] = ⊤
 AreLawful rules state (entry ∷ entries) = IsLawful rules state entry × AreLawful rules (does state entry) entries
 
--- the end of a message that an entry brings, or what else there is
-abbrev pub end_or : (message : ℕ) → Fate → Entry → Fate
-end_or message fate (recorded (Accept time parts)) = fate
-end_or message fate (recorded (Acked number smsc foreign time)) = if number == message then acked else fate
-end_or message fate (recorded (Rejected number smsc cause time)) = if number == message then rejected cause else fate
-end_or message fate (recorded (Reported smsc foreign kind text time)) = fate
-end_or message fate (recorded (Arrived smsc sms)) = fate
-end_or message fate (recorded (Answered arrivals parts time)) = fate
-end_or message fate (recorded (Called job status)) = fate
-end_or message fate (recorded (CallDropped job cause)) = fate
-end_or message fate (passing entry) = fate
+-- what becomes of a message by an entry that ends one, and else
+abbrev pub ended_by : (message : ℕ) → Recorded → Fate → Fate
+ended_by message (entry.Accept accept) fate = fate
+ended_by message (entry.Acked acked) fate = if acked.message == message then taken else fate
+ended_by message (entry.Rejected rejected) fate = if rejected.message == message then given_up rejected.cause else fate
+ended_by message (entry.Reported reported) fate = fate
+ended_by message (entry.Arrived arrived) fate = fate
+ended_by message (entry.Answered answered) fate = fate
+ended_by message (entry.Called called) fate = fate
+ended_by message (entry.CallDropped dropped) fate = fate
 
--- what becomes of a message by a list of entries
+-- what becomes of a message by entries
 abbrev pub fate : List Entry → (message : ℕ) → Fate
 fate [] message = stored
-fate (entry ∷ entries) message = end_or message (fate entries message) entry
+fate (recorded kept ∷ entries) message = ended_by message kept (fate entries message)
+fate (passing brief ∷ entries) message = fate entries message
 
--- the law of fates: each message that was accepted was taken, given up, or waits
-abbrev pub HasAllFates : State → Type 0
-HasAllFates state = state.accepted ≡ state.acked + state.rejected + length state.waiting
+-- an entry ends this message
+abbrev pub is_end_of : (message : ℕ) → Entry → Bool
+is_end_of message (recorded (entry.Accept accept)) = false
+is_end_of message (recorded (entry.Acked acked)) = acked.message == message
+is_end_of message (recorded (entry.Rejected rejected)) = rejected.message == message
+is_end_of message (recorded (entry.Reported reported)) = false
+is_end_of message (recorded (entry.Arrived arrived)) = false
+is_end_of message (recorded (entry.Answered answered)) = false
+is_end_of message (recorded (entry.Called called)) = false
+is_end_of message (recorded (entry.CallDropped dropped)) = false
+is_end_of message (passing brief) = false
+
+-- each message that was accepted was taken, given up, or waits
+abbrev pub IsCounted : State → Type 0
+IsCounted state = state.accepted ≡ state.acked + state.rejected + length state.waiting
+
+-- a message waits before the entries, or they accept it
+abbrev pub IsKnown : State → List Entry → (message : ℕ) → Type 0
+IsKnown state entries message = Has state.waiting message ⊎ ((state.last_message < message) × (message ≤ (after state entries).last_message))
+
+-- The law of fates: no message ends twice; one that is known is stored exactly where it still waits; and all of them are counted.
+pub record HaveFates (state : State) (entries : List Entry) : Type 0 where
+  pub once : (message : ℕ) → count_by (is_end_of message) entries ≤ 1
+  pub stored : (message : ℕ) → IsKnown state entries message → ((fate entries message ≡ stored) ↔ Has (after state entries).waiting message)
+  pub counted : IsCounted (after state entries)

@@ -4,7 +4,7 @@ use Rattle.sms_record.specs.declared.kind.Kind.{Kind}
 use Rattle.sms_record.specs.declared.kind.Kind.TheVariants.{Delivered, Undelivered, Buffered, Sent, Refused}
 use Rattle.sms_record.specs.declared.sms.Sms.{Sms}
 use Rattle.gate_entries.specs.declared.recorded.Recorded.{Recorded}
-use Rattle.gate_entries.specs.declared.recorded.Recorded.TheVariants.{Accept, Acked, Rejected, Reported, Arrived, Answered, Called, CallDropped}
+use Rattle.gate_entries.specs.declared.recorded.Recorded.TheVariants as entry
 use Rattle.gate_entries.specs.declared.passing.Passing.{Passing}
 use Rattle.gate_entries.specs.declared.passing.Passing.TheVariants.{Up, Down, Took, Returned, TookJob, ReturnedJob, TookArrival, ReturnedArrival}
 use Rattle.gate_model.specs.declared.arrival.Arrival.{Arrival}
@@ -119,16 +119,22 @@ leases_arrival arrival leased state = record state { arrivals = with_change arri
 
 -- an entry that is kept, but that it is counted
 abbrev pub keeps : Recorded → State → State
-keeps (Accept time parts) state = accepts parts state
-keeps (Acked message smsc foreign time) state =
-    calls (reported_url Sent message (sms_of message state)) (record (ends message state) { acked = state.acked + 1 })
-keeps (Rejected message smsc cause time) state =
-    calls (reported_url Refused message (sms_of message state)) (record (ends message state) { rejected = state.rejected + 1 })
-keeps (Reported smsc foreign kind text time) state = hears kind smsc foreign (find (is_under smsc foreign) state.awaited) state
-keeps (Arrived smsc sms) state = arrives sms state
-keeps (Answered arrivals parts time) state = accepts parts (answers arrivals state)
-keeps (Called job status) state = record (ends_job job state) { called = state.called + 1 }
-keeps (CallDropped job cause) state = record (ends_job job state) { dropped = state.dropped + 1 }
+keeps (entry.Accept accept) state = accepts accept.parts state
+keeps (entry.Acked acked) state =
+    calls (reported_url Sent acked.message (sms_of acked.message state)) (record (ends acked.message state) { acked = state.acked + 1 })
+keeps (entry.Rejected rejected) state =
+    calls (reported_url Refused rejected.message (sms_of rejected.message state))
+    (record (ends rejected.message state) { rejected = state.rejected + 1 })
+keeps (entry.Reported reported) state =
+    hears reported.kind reported.smsc reported.foreign (find (is_under reported.smsc reported.foreign) state.awaited) state
+keeps (entry.Arrived arrived) state = arrives arrived.sms state
+keeps (entry.Answered answered) state = accepts answered.parts (answers answered.arrivals state)
+keeps (entry.Called called) state = record (ends_job called.job state) { called = state.called + 1 }
+keeps (entry.CallDropped dropped) state = record (ends_job dropped.job state) { dropped = state.dropped + 1 }
+
+-- one more entry was recorded
+abbrev pub counts_entry : State → State
+counts_entry state = record state { entries = state.entries + 1 }
 
 -- an entry that passes
 abbrev pub passes : Passing → State → State
@@ -143,8 +149,8 @@ passes (ReturnedArrival arrival) state = leases_arrival arrival false state
 
 -- what an entry does
 abbrev pub does : State → Entry → State
-does state (recorded entry) = record (keeps entry state) { entries = state.entries + 1 }
-does state (passing entry) = passes entry state
+does state (recorded kept) = counts_entry (keeps kept state)
+does state (passing brief) = passes brief state
 
 -- what entries do, one after the other
 abbrev pub after : State → List Entry → State

@@ -2,16 +2,16 @@
 use Rattle.std.specs.Prelude.{◌≡◌, ◌≢◌, ℕ, Bool, ◌+◌, ◌*◌, ◌<◌, ◌≤◌, ◌^◌, nat_lt, ◌&&◌, not, ◌==◌, List, [], ◌∷◌, length, All, Option, Some, None, IsSomeAnd, IsTrue, IsFalse, slice_get, if◌then◌else◌, true, false, ⊤}
 use Rattle.std.specs.List.{list_any, position_from}
 use Rattle.std.specs.Option.{option_or, option_map}
-use Rattle.sms_record.specs.declared.limits.TheConstants.{MOST_MESSAGES}
 use Rattle.sms_record.specs.declared.sms.Sms.{Sms}
 use Rattle.route_rules.specs.declared.rules.Rules.{Rules}
 use Rattle.route_rules.specs.Routes.{routable}
 use Rattle.gate_entries.specs.declared.cause.Cause.{Cause}
 use Rattle.gate_entries.specs.declared.cause.Cause.TheVariants.{Centre, Expired}
-use Rattle.gate_entries.specs.declared.cause.DropCause.{DropCause}
-use Rattle.gate_entries.specs.declared.cause.DropCause.TheVariants.{BadUrl, Tries}
+use Rattle.gate_entries.specs.Entry.{IsEntry}
+use Rattle.gate_entries.specs.declared.call_dropped.DropCause.{DropCause}
+use Rattle.gate_entries.specs.declared.call_dropped.DropCause.TheVariants.{BadUrl, Tries}
 use Rattle.gate_entries.specs.declared.recorded.Recorded.{Recorded}
-use Rattle.gate_entries.specs.declared.recorded.Recorded.TheVariants.{Accept, Acked, Rejected, Reported, Arrived, Answered, Called, CallDropped}
+use Rattle.gate_entries.specs.declared.recorded.Recorded.TheVariants as entry
 use Rattle.gate_entries.specs.declared.passing.Passing.{Passing}
 use Rattle.gate_entries.specs.declared.passing.Passing.TheVariants.{Up, Down, Took, Returned, TookJob, ReturnedJob, TookArrival, ReturnedArrival}
 use Rattle.gate_model.specs.declared.reply.Refusal.{Refusal}
@@ -28,10 +28,6 @@ use Rattle.gate_model.specs.Routing.{due_time, link_for}
 abbrev pub IsTime : ℕ → Type 0
 IsTime time = time < 2 ^ 37
 
--- messages of one entry, at least so many
-abbrev pub AreParts : (least : ℕ) → List Sms → Type 0
-AreParts least parts = (least ≤ length parts) × (length parts ≤ MOST_MESSAGES)
-
 -- a message is no longer worth sending, if an end was asked for
 abbrev pub HasExpired : (time : ℕ) → Waiting → Type 0
 HasExpired time waiting = (1 ≤ waiting.sms.validity) × (waiting.sms.time + 60 * waiting.sms.validity ≤ time)
@@ -41,22 +37,29 @@ abbrev pub AreDistinct : List ℕ → Type 0
 AreDistinct [] = ⊤
 AreDistinct (number ∷ numbers) = IsFalse (list_any (λ other. other == number) numbers) × AreDistinct numbers
 
--- distinct arrivals that are held, some and not too many
+-- distinct arrivals that are held
 abbrev pub AreArrivals : State → (arrivals : List ℕ) → Type 0
-AreArrivals state arrivals = (1 ≤ length arrivals) × (length arrivals ≤ 255) × All (Has state.arrivals) arrivals × AreDistinct arrivals
+AreArrivals state arrivals = All (Has state.arrivals) arrivals × AreDistinct arrivals
 
--- A recorded entry names what the state holds, and its counts and times are within their bounds.
+-- a message that waits, where the cause of its end asks for no more
+abbrev pub MayEnd : State → (message time : ℕ) → Cause → Type 0
+MayEnd state message time (Centre code) = Has state.waiting message
+MayEnd state message time Expired = IsSomeAnd (value_under message state.waiting) (HasExpired time)
+
+-- an entry suits a state: it names what the state holds, at a reading of the clock
+abbrev pub Suits : State → Recorded → Type 0
+Suits state (entry.Accept accept) = IsTime accept.time
+Suits state (entry.Acked acked) = Has state.waiting acked.message × IsTime acked.time
+Suits state (entry.Rejected rejected) = MayEnd state rejected.message rejected.time rejected.cause × IsTime rejected.time
+Suits state (entry.Reported reported) = IsTime reported.time
+Suits state (entry.Arrived arrived) = ⊤
+Suits state (entry.Answered answered) = AreArrivals state answered.arrivals × IsTime answered.time
+Suits state (entry.Called called) = Has state.jobs called.job
+Suits state (entry.CallDropped dropped) = Has state.jobs dropped.job
+
+-- sound: an entry of the grammar, which has the counts and the lengths, that suits the state
 abbrev pub IsSound : State → Recorded → Type 0
-IsSound state (Accept time parts) = AreParts 1 parts × IsTime time
-IsSound state (Acked message smsc foreign time) = Has state.waiting message × IsTime time
-IsSound state (Rejected message smsc (Centre code) time) = Has state.waiting message × IsTime time
-IsSound state (Rejected message smsc Expired time) = IsSomeAnd (value_under message state.waiting) (HasExpired time) × IsTime time
-IsSound state (Reported smsc foreign kind text time) = IsTime time
-IsSound state (Arrived smsc sms) = ⊤
-IsSound state (Answered arrivals parts time) =
-    AreArrivals state arrivals × AreParts 0 parts × IsTime time
-IsSound state (Called job status) = Has state.jobs job
-IsSound state (CallDropped job cause) = Has state.jobs job
+IsSound state kept = IsEntry kept × Suits state kept
 
 -- ---- lawful: what is asked of an entry that happens
 
@@ -80,17 +83,21 @@ abbrev pub IsTriedOut : DropCause → Job → Type 0
 IsTriedOut BadUrl job = ⊤
 IsTriedOut Tries job = 9 ≤ job.returns
 
+-- whoever ends a message has taken it, but one that is no longer worth sending ends while nobody has
+abbrev pub HoldsMessage : State → (message : ℕ) → Cause → Type 0
+HoldsMessage state message (Centre code) = IsLeased state message
+HoldsMessage state message Expired = IsFree state message
+
 -- what a recorded entry needs besides being sound: whoever ends a thing has taken it
 abbrev pub HoldsLease : State → Recorded → Type 0
-HoldsLease state (Accept time parts) = ⊤
-HoldsLease state (Acked message smsc foreign time) = IsLeased state message
-HoldsLease state (Rejected message smsc (Centre code) time) = IsLeased state message
-HoldsLease state (Rejected message smsc Expired time) = IsFree state message
-HoldsLease state (Reported smsc foreign kind text time) = ⊤
-HoldsLease state (Arrived smsc sms) = ⊤
-HoldsLease state (Answered arrivals parts time) = All (IsArrival true state) arrivals
-HoldsLease state (Called job status) = IsJob true state job
-HoldsLease state (CallDropped job cause) = IsJob true state job × IsSomeAnd (value_under job state.jobs) (IsTriedOut cause)
+HoldsLease state (entry.Accept accept) = ⊤
+HoldsLease state (entry.Acked acked) = IsLeased state acked.message
+HoldsLease state (entry.Rejected rejected) = HoldsMessage state rejected.message rejected.cause
+HoldsLease state (entry.Reported reported) = ⊤
+HoldsLease state (entry.Arrived arrived) = ⊤
+HoldsLease state (entry.Answered answered) = All (IsArrival true state) answered.arrivals
+HoldsLease state (entry.Called called) = IsJob true state called.job
+HoldsLease state (entry.CallDropped dropped) = IsSomeAnd (value_under dropped.job state.jobs) (λ job. (job.leased ≡ true) × IsTriedOut dropped.cause job)
 
 -- a link may take the message now
 abbrev pub MayTake : Rules → State → (link now : ℕ) → Waiting → Type 0
@@ -108,8 +115,8 @@ MayPass rules state (TookArrival arrival) = IsArrival false state arrival
 MayPass rules state (ReturnedArrival arrival) = IsArrival true state arrival
 
 abbrev pub IsLawful : Rules → State → Entry → Type 0
-IsLawful rules state (recorded entry) = IsSound state entry × HoldsLease state entry
-IsLawful rules state (passing entry) = MayPass rules state entry
+IsLawful rules state (recorded kept) = IsSound state kept × HoldsLease state kept
+IsLawful rules state (passing brief) = MayPass rules state brief
 
 -- ---- refused: entries that are lawful, and for which there is no link or no room
 
@@ -142,11 +149,11 @@ refused_parts rules state parts = option_or (without_route rules parts) (option_
 
 -- why a recorded entry is refused, if it is
 abbrev pub refusal : Rules → State → Recorded → Option Refusal
-refusal rules state (Accept time parts) = refused_parts rules state parts
-refusal rules state (Acked message smsc foreign time) = past_entries state
-refusal rules state (Rejected message smsc cause time) = past_entries state
-refusal rules state (Reported smsc foreign kind text time) = past_entries state
-refusal rules state (Arrived smsc sms) = option_or (past_arrivals rules state) (past_entries state)
-refusal rules state (Answered arrivals parts time) = refused_parts rules state parts
-refusal rules state (Called job status) = past_entries state
-refusal rules state (CallDropped job cause) = past_entries state
+refusal rules state (entry.Accept accept) = refused_parts rules state accept.parts
+refusal rules state (entry.Acked acked) = past_entries state
+refusal rules state (entry.Rejected rejected) = past_entries state
+refusal rules state (entry.Reported reported) = past_entries state
+refusal rules state (entry.Arrived arrived) = option_or (past_arrivals rules state) (past_entries state)
+refusal rules state (entry.Answered answered) = refused_parts rules state answered.parts
+refusal rules state (entry.Called called) = past_entries state
+refusal rules state (entry.CallDropped dropped) = past_entries state

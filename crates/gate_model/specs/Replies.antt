@@ -4,7 +4,7 @@ use Rattle.sms_record.specs.declared.sms.Sms.{Sms}
 use Rattle.route_rules.specs.declared.rules.Rules.{Rules}
 use Rattle.route_rules.specs.Routes.{pool}
 use Rattle.gate_entries.specs.declared.recorded.Recorded.{Recorded}
-use Rattle.gate_entries.specs.declared.recorded.Recorded.TheVariants.{Accept, Acked, Rejected, Reported, Arrived, Answered, Called, CallDropped}
+use Rattle.gate_entries.specs.declared.recorded.Recorded.TheVariants as entry
 use Rattle.gate_model.specs.declared.reply.Reply.{Reply}
 use Rattle.gate_model.specs.declared.reply.Reply.TheVariants.{Accepted, Noted}
 use Rattle.gate_model.specs.State.{State, is_under}
@@ -20,11 +20,11 @@ accepted rules state parts = Accepted (state.last_message + 1) (length parts) (i
 
 -- the reply to an entry that is recorded in a state
 abbrev pub reply_to : Rules → State → Recorded → Reply
-reply_to rules state (Accept time parts) = accepted rules state parts
-reply_to rules state (Acked message smsc foreign time) = Noted true
-reply_to rules state (Rejected message smsc cause time) = Noted true
-reply_to rules state (Reported smsc foreign kind text time) = Noted (is_some (find (is_under smsc foreign) state.awaited))
-reply_to rules state (Arrived smsc sms) = Noted true
-reply_to rules state (Answered arrivals parts time) = accepted rules state parts
-reply_to rules state (Called job status) = Noted true
-reply_to rules state (CallDropped job cause) = Noted true
+reply_to rules state (entry.Accept accept) = accepted rules state accept.parts
+reply_to rules state (entry.Acked acked) = Noted true
+reply_to rules state (entry.Rejected rejected) = Noted true
+reply_to rules state (entry.Reported reported) = Noted (is_some (find (is_under reported.smsc reported.foreign) state.awaited))
+reply_to rules state (entry.Arrived arrived) = Noted true
+reply_to rules state (entry.Answered answered) = accepted rules state answered.parts
+reply_to rules state (entry.Called called) = Noted true
+reply_to rules state (entry.CallDropped dropped) = Noted true

@@ -1,10 +1,11 @@
 -- What a store of messages holds, and what it has counted.
-use Rattle.std.specs.Prelude.{ℕ, Bool, false, ◌&&◌, ◌==◌, List, [], length, map, replicate, count_by, Option, Some, None, bytes_eq}
+use Rattle.std.specs.Prelude.{ℕ, ◌+◌, Bool, false, ◌&&◌, ◌==◌, List, [], length, map, replicate, count_by, Option, Some, None, bytes_eq}
 use Rattle.std.specs.List.{range_with_len}
 use Rattle.sms_record.specs.declared.sms.Sms.{Sms}
 use Rattle.gate_model.specs.declared.arrival.Arrival.{Arrival}
 use Rattle.gate_model.specs.declared.totals.Totals.{Totals}
 use Rattle.gate_model.specs.declared.waiting.Waiting.{Waiting}
+use Rattle.gate_model.specs.Numbers.{Rise}
 
 -- A URL that is still to be called, whether somebody has taken it, and how often it was given back since the store was opened.
 pub record Job : Type 0 where
@@ -65,6 +66,12 @@ empty links = record {
   last_job = 0;
   last_arrival = 0;
 }
+
+-- Numbers are given in order, from 1: those that are held rise, and none is above the last one.
+pub record IsInOrder (state : State) : Type 0 where
+  pub waiting : Rise 1 (state.last_message + 1) state.waiting
+  pub arrivals : Rise 1 (state.last_arrival + 1) state.arrivals
+  pub jobs : Rise 1 (state.last_job + 1) state.jobs
 
 -- this is the link
 abbrev pub is_link : (link : ℕ) → Option ℕ → Bool
