@@ -83,7 +83,7 @@ module _ {T : Type 0} where
       by_number
       (λ b. cond b (Some pair.1) (value_under number pairs) ≡ Some value → cond b (number, change value) pair ∷ with_value number (change value) pairs ≡ cond b (pair.0, change pair.1) pair ∷ with_change number change pairs)
       pair.0 number
-      (λ e there. 
+      (λ e there.
       let value_is : pair.1 ≡ value = cc in
       let first : ◌≡◌ {A = ℕ × T} (number, change value) (pair.0, change pair.1) = cc in
       rw (with_value-before (pair.0 + 1) below number (change value) pairs (omega arith) rise.2, with_change-before (pair.0 + 1) below number change pairs (omega arith) rise.2)
@@ -176,3 +176,44 @@ module _ {T : Type 0} where
     pub with_changes-numbered_from : (first : ℕ) (values : List T) → with_changes every (numbered_from first values) ≡ numbered_from first (map every values)
     with_changes-numbered_from first [] = refl
     with_changes-numbered_from first (value ∷ values) = ap (λ ps. (first, every value) ∷ ps) (with_changes-numbered_from (first + 1) values)
+
+module _ {T : Type 0} where
+  with_value-with_value : (number : ℕ) (value other : T) (pairs : List (ℕ × T)) → with_value number other (with_value number value pairs) ≡ with_value number other pairs
+  with_value-with_value number value other [] = refl
+  with_value-with_value number value other (pair ∷ pairs) =
+      let rest = with_value-with_value number value other pairs in
+      by_number
+      (λ b. with_value number other (cond b (number, value) pair ∷ with_value number value pairs) ≡ cond b (number, other) pair ∷ with_value number other pairs) pair.0 number
+      (λ e. rw (eq-eqb number number refl) (ap (λ ps. (number, other) ∷ ps) rest))
+      (λ ne. rw (ne_eqb pair.0 number ne) (ap (λ ps. pair ∷ ps) rest))
+
+  -- a value is taken out for a moment, and put back changed
+  pub with_change-replaced : (from below number : ℕ) (change : T → T) (value holder : T) (pairs without_it with_it : List (ℕ × T)) → Rise from below pairs → value_under number pairs ≡ Some value
+      → without_it ≡ with_value number holder pairs → with_it ≡ with_value number (change value) without_it → with_it ≡ with_change number change pairs
+  with_change-replaced from below number change value holder pairs without_it with_it rise is first second =
+      second ∙ ap (with_value number (change value)) first ∙ with_value-with_value number holder (change value) pairs
+      ∙ with_change-value from below number change value pairs rise is
+
+  -- a number that isn't there
+  with_value-absent : (number : ℕ) (value : T) (pairs : List (ℕ × T)) → value_under number pairs ≡ None → with_value number value pairs ≡ pairs
+  with_value-absent number value [] none = refl
+  with_value-absent number value (pair ∷ pairs) none =
+      by_number
+      (λ b. cond b (Some pair.1) (value_under number pairs) ≡ None → cond b (number, value) pair ∷ with_value number value pairs ≡ pair ∷ pairs) pair.0 number
+      (λ e is. absurd cc)
+      (λ ne is. ap (λ ps. pair ∷ ps) (with_value-absent number value pairs is))
+      none
+
+  with_change-absent : (number : ℕ) (change : T → T) (pairs : List (ℕ × T)) → value_under number pairs ≡ None → with_change number change pairs ≡ pairs
+  with_change-absent number change [] none = refl
+  with_change-absent number change (pair ∷ pairs) none =
+      by_number
+      (λ b. cond b (Some pair.1) (value_under number pairs) ≡ None → cond b (pair.0, change pair.1) pair ∷ with_change number change pairs ≡ pair ∷ pairs) pair.0 number
+      (λ e is. absurd cc)
+      (λ ne is. ap (λ ps. pair ∷ ps) (with_change-absent number change pairs is))
+      none
+
+  -- nothing is there to be changed
+  pub with_change-nothing : (number : ℕ) (change : T → T) (holder : T) (pairs now : List (ℕ × T)) → value_under number pairs ≡ None → now ≡ with_value number holder pairs
+      → now ≡ with_change number change pairs
+  with_change-nothing number change holder pairs now none is = is ∙ with_value-absent number holder pairs none ∙ sym (with_change-absent number change pairs none)

@@ -23,8 +23,8 @@ settle-accepts : (parts : List Sms) (state : State) → settle (accepts parts st
 settle-accepts parts state =
     let first = state.last_message + 1 in
     let waiting : with_changes free_waiting (state.waiting ++ numbered_from first (map unleased parts)) ≡ with_changes free_waiting state.waiting ++ numbered_from first (map unleased parts) =
-        map-append (λ pair. (pair.0, free_waiting pair.1)) state.waiting (numbered_from first (map unleased parts))
-        ∙ ap (λ ps. with_changes free_waiting state.waiting ++ ps) (with_changes-numbered_from free_waiting first (map unleased parts) ∙ ap (numbered_from first) (free-unleased parts)) in
+    map-append (λ pair. (pair.0, free_waiting pair.1)) state.waiting (numbered_from first (map unleased parts))
+    ∙ ap (λ ps. with_changes free_waiting state.waiting ++ ps) (with_changes-numbered_from free_waiting first (map unleased parts) ∙ ap (numbered_from first) (free-unleased parts)) in
     ap (λ ps. record (accepts parts (settle state)) { waiting = ps }) waiting
 
 with_changes-fold : {T : Type 0} (every : T → T) (pairs : List (ℕ × T)) (numbers : List ℕ) → with_changes every (fold (λ ps number. without number ps) pairs numbers) ≡ fold (λ ps number. without number ps) (with_changes every pairs) numbers

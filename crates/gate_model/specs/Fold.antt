@@ -90,9 +90,13 @@ abbrev pub without_oldest : (smsc foreign : List ℕ) → List Awaited → List 
 without_oldest smsc foreign [] = []
 without_oldest smsc foreign (first ∷ rest) = if is_under smsc foreign first then rest else first ∷ without_oldest smsc foreign rest
 
+-- a report belonged to no message
+abbrev pub misses : State → State
+misses state = record state { unmatched = state.unmatched + 1 }
+
 -- a report of a kind came for the oldest awaited message of a key, where there is one
 abbrev pub hears : Kind → (smsc foreign : List ℕ) → Option Awaited → State → State
-hears kind smsc foreign None state = record state { unmatched = state.unmatched + 1 }
+hears kind smsc foreign None state = misses state
 hears kind smsc foreign (Some awaited) state =
     calls (reported_url kind awaited.number (Some awaited.sms))
     (if is_last kind then record state { awaited = without_oldest smsc foreign state.awaited } else state)
@@ -117,14 +121,21 @@ leases_arrival arrival leased state = record state { arrivals = with_change arri
 
 -- ---- entries
 
+-- a centre took a message
+abbrev pub acknowledges : (message : ℕ) → State → State
+acknowledges message state =
+    calls (reported_url Sent message (sms_of message state)) (record (ends message state) { acked = state.acked + 1 })
+
+-- a message is given up
+abbrev pub rejects : (message : ℕ) → State → State
+rejects message state =
+    calls (reported_url Refused message (sms_of message state)) (record (ends message state) { rejected = state.rejected + 1 })
+
 -- an entry that is kept, but that it is counted
 abbrev pub keeps : Recorded → State → State
 keeps (entry.Accept accept) state = accepts accept.parts state
-keeps (entry.Acked acked) state =
-    calls (reported_url Sent acked.message (sms_of acked.message state)) (record (ends acked.message state) { acked = state.acked + 1 })
-keeps (entry.Rejected rejected) state =
-    calls (reported_url Refused rejected.message (sms_of rejected.message state))
-    (record (ends rejected.message state) { rejected = state.rejected + 1 })
+keeps (entry.Acked acked) state = acknowledges acked.message state
+keeps (entry.Rejected rejected) state = rejects rejected.message state
 keeps (entry.Reported reported) state =
     hears reported.kind reported.smsc reported.foreign (find (is_under reported.smsc reported.foreign) state.awaited) state
 keeps (entry.Arrived arrived) state = arrives arrived.sms state

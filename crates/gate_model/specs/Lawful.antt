@@ -1,6 +1,6 @@
 -- Which entries may happen to a state, and which of them are refused.
-use Rattle.std.specs.Prelude.{◌≡◌, ◌≢◌, ℕ, Bool, ◌+◌, ◌*◌, ◌<◌, ◌≤◌, ◌^◌, nat_lt, ◌&&◌, not, ◌==◌, List, [], ◌∷◌, length, All, Option, Some, None, IsSomeAnd, IsTrue, IsFalse, slice_get, if◌then◌else◌, true, false, ⊤}
-use Rattle.std.specs.List.{list_any, position_from}
+use Rattle.std.specs.Prelude.{◌≡◌, ◌≢◌, ℕ, Bool, ◌+◌, ◌*◌, ◌<◌, ◌≤◌, ◌^◌, nat_lt, ◌&&◌, not, ◌==◌, List, [], ◌∷◌, length, All, Option, Some, None, IsSomeAnd, IsTrue, IsFalse, slice_get, position, if◌then◌else◌, true, false, ⊤}
+use Rattle.std.specs.List.{list_any}
 use Rattle.std.specs.Option.{option_or, option_map}
 use Rattle.sms_record.specs.declared.sms.Sms.{Sms}
 use Rattle.route_rules.specs.declared.rules.Rules.{Rules}
@@ -126,7 +126,7 @@ most_entries = 2 ^ 48
 
 -- the first of these parts that no link may carry, up or not
 abbrev pub without_route : Rules → List Sms → Option Refusal
-without_route rules parts = option_map (λ part. NoRoute part) (position_from (λ sms. not (routable rules sms)) 0 parts)
+without_route rules parts = option_map (λ part. NoRoute part) (position (λ sms. not (routable rules sms)) parts)
 
 -- there are parts, and with the messages that wait they are more than may wait
 abbrev pub past_queue : Rules → State → List Sms → Option Refusal

@@ -15,10 +15,17 @@ due_time sms = sms.time + 60 * sms.deferred
 abbrev pub link_for : Rules → State → Sms → Option ℕ
 link_for rules state sms = chosen rules state.up (flights state) sms
 
--- a link may take this message now: none has taken it, it is due, and it goes by this link
+-- a message may be sent by now
+abbrev pub is_due : Sms → (now : ℕ) → Bool
+is_due sms now = nat_le (due_time sms) now
+
+-- a message goes by a link
+abbrev pub goes_by : Rules → State → Sms → (link : ℕ) → Bool
+goes_by rules state sms link = is_link link (link_for rules state sms)
+
+-- a link may take a message now: none has taken it, it is due, and it goes by this link
 abbrev pub may_take : Rules → State → (link now : ℕ) → Waiting → Bool
-may_take rules state link now waiting =
-    is_none waiting.lease && (nat_le (due_time waiting.sms) now && is_link link (link_for rules state waiting.sms))
+may_take rules state link now waiting = is_none waiting.lease && (is_due waiting.sms now && goes_by rules state waiting.sms link)
 
 -- the least number of a message that a link may take now
 abbrev pub next : Rules → State → (link now : ℕ) → Option ℕ

@@ -7,12 +7,17 @@
 
 mod acceptor;
 mod arrival;
+mod counts;
+mod gate;
+mod ready;
 mod reply;
 mod totals;
 mod waiting;
 
 pub use acceptor::Acceptor;
 pub use arrival::Arrival;
+pub use gate::Gate;
+pub use ready::Ready;
 pub use reply::{Refusal, Reply};
 pub use totals::Totals;
 pub use waiting::Waiting;

@@ -1,0 +1,216 @@
+-- What keeps a state whole is kept by each thing that a gate does.
+use Rattle.std.proofs.Common.{◌≡◌, ◌≢◌, refl, sym, ap, ◌∙◌, subst, ℕ, ◌+◌, ◌*◌, ◌-◌, ◌≤◌, ◌<◌, ◌^◌, zero, suc, Bool, List, [], ◌∷◌, ◌++◌, length, map, Option, Some, None, arith, add-zero, length-set}
+use Rattle.std.specs.Prelude.{slice_set, slice_index, fold, IsSome, IsSomeAnd, replicate, false}
+use Rattle.std.specs.List.{range_with_len}
+use Rattle.std.proofs.lemmas.List.{length-replicate}
+use Rattle.sms_record.specs.declared.sms.Sms.{Sms}
+use Rattle.route_rules.specs.declared.rules.Rules.{Rules}
+use Rattle.gate_entries.specs.declared.limits.TheConstants.{MOST_MESSAGES}
+use Rattle.gate_model.specs.declared.gate.Gate.{Gate}
+use Rattle.gate_model.specs.declared.waiting.Waiting.{Waiting}
+use Rattle.gate_model.specs.Numbers.{Has, Rise, value_under, without, with_change, numbered_from}
+use Rattle.gate_model.specs.State.{State, IsInOrder, flight_of, flights, empty}
+use Rattle.gate_model.specs.Fold.{accepts, answers, arrives, ends, leases, leases_arrival, unleased, counts_entry, acknowledges, rejects, misses}
+use Rattle.gate_model.specs.Gate.{IsWhole, IsBounded, IsGate, Becomes, model_of, rules_of}
+use Rattle.gate_model.specs.Lawful.{most_entries}
+use Rattle.gate_model.specs.Links.{raised, lowered}
+use Rattle.gate_model.proofs.FlightLemmas.{flights-ends, flights-returned, flights-taken, flights-accepts, flights-none, flight_of-le}
+use Rattle.gate_model.proofs.NumberLemmas.{Rise-without, Rise-with_change}
+use Rattle.gate_model.proofs.OrderLemmas.{IsInOrder-accepts, IsInOrder-empty, Rise-one_more, Rise-fold_without}
+
+-- a gate that holds a whole state under the rules of another has become that
+pub becomes : (old new : Gate) (flight : List ℕ) (state : State) → rules_of new ≡ rules_of old → new.flight.items ≡ flight → model_of new ≡ state
+    → IsWhole (rules_of old) flight state → Becomes old new state
+becomes old new flight state rules flights holds whole = record {
+  whole =
+      subst (λ r. IsWhole r new.flight.items (model_of new)) (sym rules)
+      (subst (λ f. IsWhole (rules_of old) f (model_of new)) (sym flights) (subst (λ s. IsWhole (rules_of old) flight s) (sym holds) whole));
+  rules = rules;
+  holds = holds;
+}
+
+-- the value under a number, where there is one
+pub some_value : {T : Type 0} (o : Option T) → IsSome o → (value : T) × (o ≡ Some value)
+some_value None is = absurd cc
+some_value (Some value) is = (value, refl)
+
+-- and what is known of it
+pub some_value_and : {T : Type 0} (o : Option T) (P : T → Type 0) → IsSomeAnd o P → (value : T) × (o ≡ Some value) × P value
+some_value_and None P is = absurd is
+some_value_and (Some value) P is = (value, refl, is)
+
+-- numbers that rise are no more than there are places for them
+pub length-Rise : {T : Type 0} (from below : ℕ) (pairs : List (ℕ × T)) → from ≤ below → Rise from below pairs → from + length pairs ≤ below
+length-Rise from below [] le rise = omega arith
+length-Rise from below (pair ∷ pairs) le rise = let rest = length-Rise (pair.0 + 1) below pairs (omega arith) rise.2 in omega (arith, rest)
+
+slice_index-le : (f : ℕ → ℕ) (most a n i : ℕ) → ((j : ℕ) → f j ≤ most) → slice_index (map f (range_with_len a n)) i ≤ most
+slice_index-le f most a zero i le = omega arith
+slice_index-le f most a (suc n) zero le = le a
+slice_index-le f most a (suc n) (suc i) le = slice_index-le f most (a + 1) n i le
+
+module _ (rules : Rules) (flight : List ℕ) (state : State) (whole : IsWhole rules flight state) where
+  -- fewer than 2^62 messages wait
+  pub few_waiting : length state.waiting ≤ 5000 * 2 ^ 48
+  few_waiting =
+      let rise = length-Rise 1 (state.last_message + 1) state.waiting (omega arith) whole.order.waiting in
+      let last = whole.bounded.last_message in
+      let few = whole.bounded.entries in
+      omega (arith, rise, last, few)
+
+  -- so no link has more in flight
+  pub few_in_flight : (link : ℕ) → slice_index flight link ≤ 5000 * 2 ^ 48
+  few_in_flight link =
+      let most = few_waiting in
+      let waiting = state.waiting in
+      subst (λ fs. slice_index fs link ≤ 5000 * 2 ^ 48) (sym whole.flights)
+      (slice_index-le (flight_of waiting) (5000 * 2 ^ 48) 0 (length state.up) link (λ j. let le = flight_of-le waiting j in omega (arith, le, most)))
+
+  bounded_like : (s : State) → s.entries ≡ state.entries → s.accepted ≡ state.accepted → s.acked ≡ state.acked → s.rejected ≡ state.rejected → s.unmatched ≡ state.unmatched
+      → s.arrived ≡ state.arrived → s.last_message ≡ state.last_message → s.last_arrival ≡ state.last_arrival → IsBounded s
+  bounded_like s entries accepted acked rejected unmatched arrived last_message last_arrival =
+      let b = whole.bounded in record {
+        entries = omega (arith, b.entries);
+        accepted = omega (arith, b.accepted);
+        last_message = omega (arith, b.last_message);
+        acked = omega (arith, b.acked);
+        rejected = omega (arith, b.rejected);
+        unmatched = omega (arith, b.unmatched);
+        arrived = omega (arith, b.arrived);
+        last_arrival = omega (arith, b.last_arrival);
+      }
+
+  pub whole-ends : (message : ℕ) (waiting : Waiting) → value_under message state.waiting ≡ Some waiting → IsWhole rules (lowered waiting.lease flight) (ends message state)
+  whole-ends message waiting is = record {
+    few_links = whole.few_links;
+    ups = whole.ups;
+    flights = ap (lowered waiting.lease) whole.flights ∙ flights-ends state message waiting whole.order is;
+    order = record { waiting = Rise-without _ _ message state.waiting whole.order.waiting; arrivals = whole.order.arrivals; jobs = whole.order.jobs };
+    bounded = bounded_like (ends message state) refl refl refl refl refl refl refl refl;
+  }
+
+  pub whole-returned : (message : ℕ) (waiting : Waiting) → value_under message state.waiting ≡ Some waiting → IsWhole rules (lowered waiting.lease flight) (leases message None state)
+  whole-returned message waiting is = record {
+    few_links = whole.few_links;
+    ups = whole.ups;
+    flights = ap (lowered waiting.lease) whole.flights ∙ flights-returned state message waiting whole.order is;
+    order = record { waiting = Rise-with_change _ _ message _ state.waiting whole.order.waiting; arrivals = whole.order.arrivals; jobs = whole.order.jobs };
+    bounded = bounded_like (leases message None state) refl refl refl refl refl refl refl refl;
+  }
+
+  pub whole-taken : (message link : ℕ) (waiting : Waiting) → value_under message state.waiting ≡ Some waiting → waiting.lease ≡ None → IsWhole rules (raised link flight) (leases message (Some link) state)
+  whole-taken message link waiting is free = record {
+    few_links = whole.few_links;
+    ups = whole.ups;
+    flights = ap (raised link) whole.flights ∙ flights-taken state message waiting whole.order is link free;
+    order = record { waiting = Rise-with_change _ _ message _ state.waiting whole.order.waiting; arrivals = whole.order.arrivals; jobs = whole.order.jobs };
+    bounded = bounded_like (leases message (Some link) state) refl refl refl refl refl refl refl refl;
+  }
+
+  pub whole-leases_arrival : (arrival : ℕ) (leased : Bool) → IsWhole rules flight (leases_arrival arrival leased state)
+  whole-leases_arrival arrival leased = record {
+    few_links = whole.few_links;
+    ups = whole.ups;
+    flights = whole.flights;
+    order = record { waiting = whole.order.waiting; arrivals = Rise-with_change _ _ arrival _ state.arrivals whole.order.arrivals; jobs = whole.order.jobs };
+    bounded = bounded_like (leases_arrival arrival leased state) refl refl refl refl refl refl refl refl;
+  }
+
+  pub whole-answers : (arrivals : List ℕ) → IsWhole rules flight (answers arrivals state)
+  whole-answers arrivals = record {
+    few_links = whole.few_links;
+    ups = whole.ups;
+    flights = whole.flights;
+    order = record { waiting = whole.order.waiting; arrivals = Rise-fold_without _ _ state.arrivals arrivals whole.order.arrivals; jobs = whole.order.jobs };
+    bounded = bounded_like (answers arrivals state) refl refl refl refl refl refl refl refl;
+  }
+
+  pub whole-accepts : (parts : List Sms) → state.entries < most_entries → length parts ≤ MOST_MESSAGES → IsWhole rules flight (counts_entry (accepts parts state))
+  whole-accepts parts few short =
+      let order = IsInOrder-accepts parts state whole.order in
+      let b = whole.bounded in record {
+        few_links = whole.few_links;
+        ups = whole.ups;
+        flights = whole.flights ∙ flights-accepts parts state;
+        order = record { waiting = order.waiting; arrivals = order.arrivals; jobs = order.jobs };
+        bounded = record {
+          entries = omega arith;
+          accepted = omega (arith, b.accepted);
+          last_message = omega (arith, b.last_message);
+          acked = omega (arith, b.acked);
+          rejected = omega (arith, b.rejected);
+          unmatched = omega (arith, b.unmatched);
+          arrived = omega (arith, b.arrived);
+          last_arrival = omega (arith, b.last_arrival);
+        };
+      }
+
+  pub whole-arrives : (sms : Sms) → state.entries < most_entries → IsWhole rules flight (counts_entry (arrives sms state))
+  whole-arrives sms few =
+      let b = whole.bounded in record {
+        few_links = whole.few_links;
+        ups = whole.ups;
+        flights = whole.flights;
+        order = record { waiting = whole.order.waiting; arrivals = Rise-one_more state.last_arrival state.arrivals _ whole.order.arrivals; jobs = whole.order.jobs };
+        bounded = record {
+          entries = omega arith;
+          accepted = omega (arith, b.accepted);
+          last_message = omega (arith, b.last_message);
+          acked = omega (arith, b.acked);
+          rejected = omega (arith, b.rejected);
+          unmatched = omega (arith, b.unmatched);
+          arrived = omega (arith, b.arrived);
+          last_arrival = omega (arith, b.last_arrival);
+        };
+      }
+
+  -- one more entry was recorded, by which at most one more message was acknowledged, given up, or missed by a report
+  pub whole-counted : (s : State) → state.entries < most_entries → s ≡ record state { acked = s.acked; rejected = s.rejected; unmatched = s.unmatched; entries = state.entries + 1 }
+      → s.acked ≤ state.acked + 1 → s.rejected ≤ state.rejected + 1 → s.unmatched ≤ state.unmatched + 1 → IsWhole rules flight s
+  whole-counted s few is acked rejected unmatched =
+      let b = whole.bounded in
+      subst (IsWhole rules flight) (sym is) (record {
+        few_links = whole.few_links;
+        ups = whole.ups;
+        flights = whole.flights;
+        order = record { waiting = whole.order.waiting; arrivals = whole.order.arrivals; jobs = whole.order.jobs };
+        bounded = record {
+          entries = omega arith;
+          accepted = omega (arith, b.accepted);
+          last_message = omega (arith, b.last_message);
+          acked = omega (arith, b.acked);
+          rejected = omega (arith, b.rejected);
+          unmatched = omega (arith, b.unmatched);
+          arrived = omega (arith, b.arrived);
+          last_arrival = omega (arith, b.last_arrival);
+        };
+      })
+
+  -- a link is up or down
+  pub whole-up : (link : ℕ) (is_up : Bool) → IsWhole rules flight (record state { up = slice_set state.up link is_up })
+  whole-up link is_up =
+      let same = length-set state.up link is_up in record {
+        few_links = whole.few_links;
+        ups = same ∙ whole.ups;
+        flights = whole.flights ∙ ap (λ n. map (flight_of state.waiting) (range_with_len 0 n)) (sym same);
+        order = record { waiting = whole.order.waiting; arrivals = whole.order.arrivals; jobs = whole.order.jobs };
+        bounded = bounded_like (record state { up = slice_set state.up link is_up }) refl refl refl refl refl refl refl refl;
+      }
+
+-- a gate in which nothing has happened
+pub whole-empty : (rules : Rules) (links : ℕ) → length rules.links ≡ links → links < 2 ^ 32 → IsWhole rules (replicate links 0) (empty links)
+whole-empty rules links are few = record {
+  few_links = omega arith;
+  ups = length-replicate links false ∙ sym are;
+  flights = sym (ap (λ n. map (flight_of []) (range_with_len 0 n)) (length-replicate links false) ∙ flights-none links);
+  order = IsInOrder-empty links;
+  bounded = record { entries = omega arith; accepted = omega arith; last_message = omega arith; acked = omega arith; rejected = omega arith; unmatched = omega arith; arrived = omega arith; last_arrival = omega arith };
+}
+
+-- a list of flights has as many as there are links
+pub length-flights : (rules : Rules) (flight : List ℕ) (state : State) → IsWhole rules flight state → length flight ≡ length rules.links
+length-flights rules flight state whole = ap length whole.flights ∙ length-map-range (flight_of state.waiting) 0 (length state.up) ∙ whole.ups
+  where
+    length-map-range : (f : ℕ → ℕ) (a n : ℕ) → length (map f (range_with_len a n)) ≡ n
+    length-map-range f a zero = refl
+    length-map-range f a (suc n) = ap suc (length-map-range f (a + 1) n)

@@ -1,0 +1,121 @@
+-- A gate: the state that it holds, and what keeps it whole.
+use Rattle.std.specs.Prelude.{◌≡◌, ℕ, ◌+◌, ◌*◌, ◌<◌, ◌≤◌, ◌^◌, List, [], length, Option, option_map, ⊤}
+use Rattle.std.specs.Option.{option_and_then, option_map_or}
+use Rattle.std.specs.Prelude.{Bool, is_some}
+use Rattle.sms_record.specs.declared.sms.Sms.{Sms}
+use Rattle.route_rules.specs.declared.rules.Rules.{Rules}
+use Rattle.gate_entries.specs.declared.recorded.Recorded.{Recorded}
+use Rattle.gate_entries.specs.declared.recorded.Recorded.TheVariants as entry
+use Rattle.gate_entries.specs.declared.limits.TheConstants.{MOST_MESSAGES}
+use Rattle.gate_model.specs.declared.gate.Gate.{Gate}
+use Rattle.gate_model.specs.declared.ready.Ready.{Ready}
+use Rattle.gate_model.specs.declared.waiting.Waiting.{Waiting}
+use Rattle.gate_model.specs.Numbers.{value_under}
+use Rattle.gate_model.specs.State.{State, IsInOrder, flights}
+use Rattle.gate_model.specs.Lawful.{most_entries}
+
+-- the state that a gate holds; as yet it has no jobs, and awaits no reports
+abbrev pub model_of : Gate → State
+model_of gate = record {
+  waiting = gate.waiting.pairs;
+  arrivals = gate.arrivals.pairs;
+  jobs = [];
+  awaited = [];
+  up = gate.up.items;
+  accepted = gate.counts.accepted;
+  acked = gate.counts.acked;
+  rejected = gate.counts.rejected;
+  unmatched = gate.counts.unmatched;
+  called = 0;
+  dropped = 0;
+  arrived = gate.counts.arrived;
+  entries = gate.counts.entries;
+  last_message = gate.counts.last_message;
+  last_job = 0;
+  last_arrival = gate.counts.last_arrival;
+}
+
+abbrev pub rules_of : Gate → Rules
+rules_of gate = gate.rules
+
+-- Counts and numbers are bounded by the entries, and these by the most that are ever recorded.
+pub record IsBounded (state : State) : Type 0 where
+  pub entries : state.entries ≤ most_entries
+  pub accepted : state.accepted ≤ MOST_MESSAGES * state.entries
+  pub last_message : state.last_message ≤ MOST_MESSAGES * state.entries
+  pub acked : state.acked ≤ state.entries
+  pub rejected : state.rejected ≤ state.entries
+  pub unmatched : state.unmatched ≤ state.entries
+  pub arrived : state.arrived ≤ state.entries
+  pub last_arrival : state.last_arrival ≤ state.entries
+
+-- What keeps a state whole, with the rules and with how many messages each link has in flight.
+pub record IsWhole (rules : Rules) (flight : List ℕ) (state : State) : Type 0 where
+  pub few_links : length rules.links < 2 ^ 32
+  pub ups : length state.up ≡ length rules.links
+  pub flights : flight ≡ flights state
+  pub order : IsInOrder state
+  pub bounded : IsBounded state
+
+abbrev pub IsGate : Gate → Type 0
+IsGate gate = IsWhole gate.rules gate.flight.items (model_of gate)
+
+-- a gate is still one, under the same rules, and holds this state now
+pub record Becomes (old new : Gate) (state : State) : Type 0 where
+  pub whole : IsGate new
+  pub rules : rules_of new ≡ rules_of old
+  pub holds : model_of new ≡ state
+
+-- a gate holds what it held, under the same rules
+pub record KeepsAll (old new : Gate) : Type 0 where
+  pub rules : rules_of new ≡ rules_of old
+  pub holds : model_of new ≡ model_of old
+  pub whole : IsGate old → IsGate new
+
+-- the lease of the message under a number, where there is one
+abbrev pub lease_under : (message : ℕ) → List (ℕ × Waiting) → Option ℕ
+lease_under message waiting = option_and_then (λ w. w.lease) (value_under message waiting)
+
+-- the messages that an entry brings
+abbrev pub parts_of : Recorded → List Sms
+parts_of (entry.Accept accept) = accept.parts
+parts_of (entry.Acked acked) = []
+parts_of (entry.Rejected rejected) = []
+parts_of (entry.Reported reported) = []
+parts_of (entry.Arrived arrived) = []
+parts_of (entry.Answered answered) = answered.parts
+parts_of (entry.Called called) = []
+parts_of (entry.CallDropped dropped) = []
+
+-- a gate has the memory that an entry needs
+abbrev pub HasRoom : Gate → Recorded → Type 0
+HasRoom gate (entry.Accept accept) = length accept.parts ≤ gate.waiting.room
+HasRoom gate (entry.Acked acked) = ⊤
+HasRoom gate (entry.Rejected rejected) = ⊤
+HasRoom gate (entry.Reported reported) = ⊤
+HasRoom gate (entry.Arrived arrived) = 1 ≤ gate.arrivals.room
+HasRoom gate (entry.Answered answered) = length answered.parts ≤ gate.waiting.room
+HasRoom gate (entry.Called called) = ⊤
+HasRoom gate (entry.CallDropped dropped) = ⊤
+
+-- the entry that was prepared
+abbrev pub entry_of : Ready → Recorded
+entry_of ready = ready.entry
+
+-- ---- what is asked of a state
+
+-- the arrival of a number, where it is held
+abbrev pub arrival_of : (arrival : ℕ) → State → Option Sms
+arrival_of arrival state = option_map (λ a. a.sms) (value_under arrival state.arrivals)
+
+-- the URL of a job, where it is held
+abbrev pub url_of : (job : ℕ) → State → Option (List ℕ)
+url_of job state = option_map (λ j. j.url) (value_under job state.jobs)
+
+-- some link has taken a message
+abbrev pub is_leased : (message : ℕ) → State → Bool
+is_leased message state = is_some (lease_under message state.waiting)
+
+-- how often a job was given back; one that isn't held never was
+abbrev pub returns_of : (job : ℕ) → State → ℕ
+returns_of job state = option_map_or (λ j. j.returns) (value_under job state.jobs) 0

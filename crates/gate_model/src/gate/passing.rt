@@ -1,0 +1,39 @@
+//! Entries that pass.
+
+ghost use Rattle.std.specs.Prelude.{◌≡◌, slice_set};
+ghost use Rattle.gate_model.specs.Fold.{passing, does};
+ghost use Rattle.gate_model.specs.Gate.{model_of, rules_of, IsGate, Becomes};
+ghost use Rattle.gate_model.specs.Lawful.{MayPass};
+
+use crate::Gate;
+use crate::gate::links::set_up;
+use gate_entries::Passing;
+
+impl Gate {
+    /// Does an entry that isn't recorded. It takes no memory.
+    pub fn pass(&mut self, entry: Passing)
+        requires whole { IsGate self.old }
+        requires lawful { MayPass (rules_of self.old) (model_of self.old) entry }
+        ensures whole { IsGate self.new }
+        ensures rules { rules_of self.new ≡ rules_of self.old }
+        ensures state { model_of self.new ≡ does (model_of self.old) (passing entry) }
+    {
+        match entry {
+            Passing::Up { link } => self.set_link(link, true),
+            Passing::Down { link } => self.set_link(link, false),
+            Passing::Took { link, message, .. } => self.take_message(link, message),
+            Passing::Returned { message } => self.return_message(message),
+            Passing::TookArrival { arrival } => self.lease_arrival(arrival, true),
+            Passing::ReturnedArrival { arrival } => self.lease_arrival(arrival, false),
+            Passing::TookJob { .. } | Passing::ReturnedJob { .. } => {}
+        }
+    }
+
+    /// A link is up, or down.
+    fn set_link(&mut self, link: u32, is_up: bool)
+        requires { IsGate self.old }
+        ensures { Becomes self.old self.new (record (model_of self.old) { up = slice_set (model_of self.old).up link is_up }) }
+    {
+        set_up(&mut self.up, link, is_up);
+    }
+}

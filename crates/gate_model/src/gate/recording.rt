@@ -1,0 +1,191 @@
+//! Entries that are recorded.
+
+ghost use Rattle.std.specs.Prelude.{◌≡◌, ◌<◌, ◌≤◌, ◌+◌, true, false, length, IfOk, IfErr, OnOk};
+ghost use Rattle.gate_entries.specs.declared.limits.TheConstants.{MOST_MESSAGES};
+ghost use Rattle.gate_model.specs.Fold.{recorded, does, counts_entry, accepts, answers, arrives, acknowledges, rejects, misses};
+ghost use Rattle.gate_model.specs.Gate.{model_of, rules_of, entry_of, IsGate, Becomes, HasRoom, KeepsAll};
+ghost use Rattle.gate_model.specs.Lawful.{IsSound, most_entries};
+ghost use Rattle.gate_model.specs.Numbers.{Has};
+ghost use Rattle.gate_model.specs.Replies.{reply_to, is_queued as queued_first};
+
+use crate::gate::messages::{end_all, put_messages};
+use crate::{Arrival, Gate, Ready, Reply};
+use gate_entries::{Answered, Recorded};
+use kn_base::{Items, Memory};
+use route_rules::assign;
+use sms_record::Sms;
+
+/// What is replied to an entry that belongs to a message.
+const MATCHED: Reply = Reply::Noted { matched: true };
+
+impl Gate {
+    /// Takes all memory that an entry needs. What the gate holds stays; after `Memory` the entry is given back.
+    pub fn prepare(&mut self, entry: Recorded, birth: u64) -> Result<Ready, (Recorded, Memory)>
+        ensures entry { IfOk result (λ ready. entry_of ready ≡ entry) }
+        ensures room { OnOk result (HasRoom self.new entry) }
+        ensures state { KeepsAll self.old self.new }
+        ensures err { IfErr result (λ back. back.0 ≡ entry) }
+    {
+        match self.reserve(&entry) {
+            Ok(()) => Ok(Ready { entry, birth }),
+            Err(Memory) => Err((entry, Memory)),
+        }
+    }
+
+    /// Takes the memory that an entry needs.
+    fn reserve(&mut self, entry: &Recorded) -> Result<(), Memory>
+        ensures room { OnOk result (HasRoom self.new entry.now) }
+        ensures state { KeepsAll self.old self.new }
+    {
+        match entry {
+            Recorded::Accept(accept) => self.waiting.reserve(accept.parts.len()),
+            Recorded::Answered(answered) => self.waiting.reserve(answered.parts.len()),
+            Recorded::Arrived(_) => self.arrivals.reserve(1),
+            Recorded::Acked(_)
+            | Recorded::Rejected(_)
+            | Recorded::Reported(_)
+            | Recorded::Called(_)
+            | Recorded::CallDropped(_) => Ok(()),
+        }
+    }
+
+    /// Does an entry that is recorded, and says what is replied to it. It takes no memory.
+    pub fn apply(&mut self, ready: Ready) -> Reply
+        requires whole { IsGate self.old }
+        requires room { HasRoom self.old (entry_of ready) }
+        requires few { (model_of self.old).entries < most_entries }
+        requires sound { IsSound (model_of self.old) (entry_of ready) }
+        ensures whole { IsGate self.new }
+        ensures rules { rules_of self.new ≡ rules_of self.old }
+        ensures state { model_of self.new ≡ does (model_of self.old) (recorded (entry_of ready)) }
+        ensures reply { result ≡ reply_to (rules_of self.old) (model_of self.old) (entry_of ready) }
+    {
+        let Ready { entry, birth: _ } = ready;
+        match entry {
+            Recorded::Accept(accept) => {
+                let queued = self.is_queued(accept.parts.as_slice());
+                self.accept(accept.parts, queued)
+            }
+            Recorded::Answered(answered) => {
+                let queued = self.is_queued(answered.parts.as_slice());
+                self.answer(answered, queued)
+            }
+            Recorded::Arrived(arrived) => self.arrive(arrived.sms),
+            Recorded::Acked(acked) => self.acknowledge(acked.message),
+            Recorded::Rejected(rejected) => self.reject(rejected.message),
+            Recorded::Reported(_) => self.hear_report(),
+            Recorded::Called(_) | Recorded::CallDropped(_) => unreachable!(),
+        }
+    }
+
+    /// Whether there is a first message that no link that is up suits.
+    fn is_queued(&self, parts: &[Sms]) -> bool
+        requires { IsGate self.now }
+        ensures { result ≡ queued_first (rules_of self.now) (model_of self.now) parts.now }
+    {
+        match parts {
+            [] => false,
+            [first, ..] => assign(&self.rules, &self.up, &self.flight, first).is_none(),
+        }
+    }
+
+    /// Messages were accepted.
+    fn accept(&mut self, parts: Items<Sms>, queued: bool) -> Reply
+        requires whole { IsGate self.old }
+        requires room { length parts ≤ self.old.waiting.room }
+        requires few { (model_of self.old).entries < most_entries }
+        requires short { length parts ≤ MOST_MESSAGES }
+        ensures state { Becomes self.old self.new (counts_entry (accepts parts (model_of self.old))) }
+        ensures reply { result ≡ Reply.Accepted ((model_of self.old).last_message + 1) (length parts) queued }
+    {
+        let first = self.counts.last_message + 1;
+        let count = parts.len();
+        put_messages(&mut self.waiting, first, parts.into_vec());
+        self.counts.last_message += count as u64;
+        self.counts.accepted += count as u64;
+        self.counts.entries += 1;
+        Reply::Accepted {
+            first,
+            count: count as u32,
+            queued,
+        }
+    }
+
+    /// Messages from centres were dealt with, and answered by these.
+    fn answer(&mut self, answered: Answered, queued: bool) -> Reply
+        requires whole { IsGate self.old }
+        requires room { length answered.parts ≤ self.old.waiting.room }
+        requires few { (model_of self.old).entries < most_entries }
+        requires short { length answered.parts ≤ MOST_MESSAGES }
+        ensures state { Becomes self.old self.new (counts_entry (accepts answered.parts (answers answered.arrivals (model_of self.old)))) }
+        ensures reply { result ≡ Reply.Accepted ((model_of self.old).last_message + 1) (length answered.parts) queued }
+    {
+        self.end_arrivals(answered.arrivals.as_slice());
+        self.accept(answered.parts, queued)
+    }
+
+    /// Messages from centres were dealt with.
+    fn end_arrivals(&mut self, arrivals: &[u64])
+        requires { IsGate self.old }
+        ensures state { Becomes self.old self.new (answers arrivals.now (model_of self.old)) }
+        ensures room { self.new.waiting.room ≡ self.old.waiting.room }
+    {
+        end_all(&mut self.arrivals, arrivals);
+    }
+
+    /// A message came from a centre.
+    fn arrive(&mut self, sms: Sms) -> Reply
+        requires whole { IsGate self.old }
+        requires room { 1 ≤ self.old.arrivals.room }
+        requires few { (model_of self.old).entries < most_entries }
+        ensures state { Becomes self.old self.new (counts_entry (arrives sms (model_of self.old))) }
+        ensures reply { result ≡ Reply.Noted true }
+    {
+        let number = self.counts.last_arrival + 1;
+        self.arrivals.push(number, Arrival { sms, leased: false });
+        self.counts.last_arrival = number;
+        self.counts.arrived += 1;
+        self.counts.entries += 1;
+        MATCHED
+    }
+
+    /// A centre took a message.
+    fn acknowledge(&mut self, message: u64) -> Reply
+        requires whole { IsGate self.old }
+        requires few { (model_of self.old).entries < most_entries }
+        requires held { Has self.old.waiting.pairs message }
+        ensures state { Becomes self.old self.new (counts_entry (acknowledges message (model_of self.old))) }
+        ensures reply { result ≡ Reply.Noted true }
+    {
+        self.end_message(message);
+        self.counts.acked += 1;
+        self.counts.entries += 1;
+        MATCHED
+    }
+
+    /// A message was given up.
+    fn reject(&mut self, message: u64) -> Reply
+        requires whole { IsGate self.old }
+        requires few { (model_of self.old).entries < most_entries }
+        requires held { Has self.old.waiting.pairs message }
+        ensures state { Becomes self.old self.new (counts_entry (rejects message (model_of self.old))) }
+        ensures reply { result ≡ Reply.Noted true }
+    {
+        self.end_message(message);
+        self.counts.rejected += 1;
+        self.counts.entries += 1;
+        MATCHED
+    }
+
+    /// A centre reported on a message. As yet no report is awaited, so it belongs to none.
+    fn hear_report(&mut self) -> Reply
+        requires whole { IsGate self.old }
+        requires few { (model_of self.old).entries < most_entries }
+        ensures state { Becomes self.old self.new (counts_entry (misses (model_of self.old))) }
+        ensures reply { result ≡ Reply.Noted false }
+    {
+        self.counts.unmatched += 1;
+        self.counts.entries += 1;
+        Reply::Noted { matched: false }
+    }
+}

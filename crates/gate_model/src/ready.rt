@@ -1,0 +1,30 @@
+//! An entry for which memory was taken.
+
+ghost use Rattle.std.specs.Prelude.{◌≡◌};
+ghost use Rattle.gate_model.specs.Gate.{entry_of};
+
+use gate_entries::Recorded;
+
+/// An entry for which a gate has taken all memory that it needs.
+#[derive(Drop)]
+pub struct Ready {
+    pub(crate) entry: Recorded,
+    /// The birth of the store, from which internal ids are made.
+    pub(crate) birth: u64,
+}
+
+impl Ready {
+    /// The entry.
+    pub fn entry(&self) -> &Recorded
+        ensures { result.now ≡ entry_of self.now }
+    {
+        &self.entry
+    }
+
+    /// The birth of the store that the entry was prepared for.
+    pub fn birth(&self) -> u64
+        ensures { result ≡ self.now.birth }
+    {
+        self.birth
+    }
+}
