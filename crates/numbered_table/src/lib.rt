@@ -1,2 +1,0 @@
-//! Values under ascending numbers.
-#![tactic(auto)]
