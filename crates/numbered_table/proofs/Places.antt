@@ -1,12 +1,12 @@
 -- The places of a table, where one is changed, where one comes, and where the empty ones go.
 use Rattle.std.proofs.Common.{◌≡◌, ◌≢◌, ◌∙◌, refl, sym, ap, subst, ℕ, zero, suc, ◌+◌, ◌-◌, ◌<◌, ◌≤◌, Bool, true, false, cond, inl, inr, List, [], ◌∷◌, ◌++◌, length, get_or, take, drop, Some, None, not, arith}
-use Rattle.std.specs.Prelude.{◌==◌, ltb, ⊤, filter, Option, option_map, is_some, IsSome, All, slice_set, min}
-use Rattle.std.specs.List.{cons_option, filter_map, HoldsAt}
+use Rattle.std.specs.Prelude.{◌==◌, ltb, filter, Option, option_map, is_some, IsSome, All, slice_set, min}
+use Rattle.std.specs.List.{cons_option, HoldsAt}
 use Rattle.std.specs.List.Sorted.{IsNonDecreasingBy, IsPartitionPoint}
-use Rattle.std.proofs.lemmas.Bool.{cases_Bool, cases_lt, cases_order, ltb-true, ltb-false}
+use Rattle.std.proofs.lemmas.Bool.{cases_lt, cases_order, ltb-true, ltb-false}
 use Rattle.std.proofs.lemmas.Option.{none-some}
 use Rattle.std.proofs.lemmas.List.{length-append, length-set, take-append-drop, take-set, drop-set, drop_more, length-take-le, get_or-take, get_or-drop, get_or-set_other, get_or_default, get_or_append_left, set-get_or, length-take, length-drop, append-nil, map-append}
-use Rattle.std.proofs.lemmas.List.Elements.{All-nil, All-cons, All-head, All-tail, All-append, All-push, All-weaker, All-filter, All-set, All-take, filter_map-append, filter-append}
+use Rattle.std.proofs.lemmas.List.Elements.{All-nil, All-cons, All-head, All-tail, All-push, All-filter, All-set, filter_map-append, filter-append}
 use Rattle.numbered_table.specs.declared.row.Row.{Row}
 use Rattle.numbered_table.specs.Pairs.{value_under, without, with_value, AllBelow, IsAscending}
 use Rattle.numbered_table.specs.Rows.{pair_of, pairs_of, Ascend, AreEmpty, AreKept}

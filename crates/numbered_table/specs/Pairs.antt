@@ -1,5 +1,5 @@
 -- What a table is to its callers: a list of pairs of a number and its value.
-use Rattle.std.specs.Prelude.{ℕ, ◌<◌, Bool, ◌==◌, not, ⊤, List, [], ◌∷◌, map, filter, Option, Some, None, All, if◌then◌else◌}
+use Rattle.std.specs.Prelude.{ℕ, ◌<◌, ◌==◌, not, ⊤, List, [], ◌∷◌, map, filter, Option, Some, None, All, if◌then◌else◌}
 use Rattle.std.specs.Coded.{Coded, coded×, coded_list, coded_ℕ, code_by}
 use Rattle.std.proofs.Common.{refl}
 

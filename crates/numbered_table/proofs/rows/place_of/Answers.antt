@@ -1,4 +1,4 @@
-use Rattle.std.proofs.Common.{◌∙◌, sym, ap, rules, ltb, arith}
+use Rattle.std.proofs.Common.{◌∙◌, ap, rules, ltb, arith}
 use Rattle.std.proofs.lemmas.List.{get_or_default}
 use Rattle.std.proofs.lemmas.List.Sorted.{IsPartitionPoint-from_clause, IsPartitionedBy-ltb}
 use Rattle.numbered_table.proofs.Places.{never_falls, nowhere}
