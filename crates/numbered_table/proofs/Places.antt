@@ -1,6 +1,6 @@
 -- The places of a table, where one is changed, where one comes, and where the empty ones go.
 use Rattle.std.proofs.Common.{◌≡◌, ◌≢◌, ◌∙◌, refl, sym, ap, subst, ℕ, zero, suc, ◌+◌, ◌-◌, ◌<◌, ◌≤◌, Bool, true, false, cond, inl, inr, List, [], ◌∷◌, ◌++◌, length, get_or, take, drop, Some, None, not, arith}
-use Rattle.std.specs.Prelude.{◌==◌, ltb, filter, Option, option_map, is_some, IsSome, All, slice_set, min}
+use Rattle.std.specs.Prelude.{◌==◌, ltb, filter, Option, option_map, is_some, IsSome, IfSome, IfNone, All, slice_set, min}
 use Rattle.std.specs.List.{cons_option, HoldsAt}
 use Rattle.std.specs.List.Sorted.{IsNonDecreasingBy, IsPartitionPoint}
 use Rattle.std.proofs.lemmas.Bool.{cases_lt, cases_order, ltb-true, ltb-false}
@@ -8,9 +8,12 @@ use Rattle.std.proofs.lemmas.Option.{none-some}
 use Rattle.std.proofs.lemmas.List.{length-append, length-set, take-append-drop, take-set, drop-set, drop_more, length-take-le, get_or-take, get_or-drop, get_or-set_other, get_or_default, get_or_append_left, set-get_or, length-take, length-drop, append-nil, map-append}
 use Rattle.std.proofs.lemmas.List.Elements.{All-nil, All-cons, All-head, All-tail, All-push, All-filter, All-set, filter_map-append, filter-append}
 use Rattle.numbered_table.specs.declared.row.Row.{Row}
-use Rattle.numbered_table.specs.Pairs.{value_under, without, with_value, AllBelow, IsAscending}
+use Rattle.numbered_table.specs.Pairs.{Numbered, value_under, without, with_value, AllBelow, IsAscending}
 use Rattle.numbered_table.specs.Rows.{pair_of, pairs_of, Ascend, AreEmpty, AreKept}
 use Rattle.numbered_table.proofs.PairLists.{AreApart, AreApart-from_below, AreApart-from_above, value_under_behind, value_under_between, value_under-apart, without_between, without-apart, with_value_between, with_value-apart}
+
+at_place : (P : ℕ → Type 0) (answer : Option ℕ) (place : ℕ) → answer ≡ Some place → IfSome answer P → P place
+at_place P answer place is holds = subst (λ other. IfSome other P) is holds
 
 module _ {T : Type 0} where
   -- the pairs of a place with this number and value, and of those behind it
@@ -476,3 +479,40 @@ module _ {T : Type 0} where
         let below' : AllBelow number (pairs_of slice) = subst (λ xs. AllBelow number (pairs_of xs)) (sym same) below in
         let there = kept_pushed slice end within empty first_live empties number value live below' kept' in
         rw (after_is cut after (record { number = number; value = Some value }) cut_is put, least_is, long) there
+
+  -- a number under which a value stands has a place
+  pub has_place : (place : Option ℕ) (number : ℕ) (slice rows : List (Row T)) → slice ≡ rows → IfNone place (All (λ row. row.number ≢ number) slice)
+      → IsSome (value_under number (pairs_of rows)) → IsSome place
+  has_place None number slice rows same absent some =
+      absurd (let never : is_some {T = T} None ≡ true = subst (λ value. is_some value ≡ true) (absent_value number slice rows same absent) some in cc)
+  has_place (Some place) number slice rows same absent some = refl
+
+  abbrev pair_list : ℕ → List (ℕ × T) → Numbered T
+  pair_list room pairs = record { pairs = pairs; room = room }
+
+  pub with_room : (room : ℕ) (old new : List (ℕ × T)) → old ≡ new → pair_list room old ≡ pair_list room new
+  with_room room old new same = ap (pair_list room) same
+
+  -- the same of a place that was an answer, at which a value surely stands
+  module _ (number place : ℕ) (answer : Option ℕ) (slice rows : List (Row T)) (row : Row T) (is_answer : answer ≡ Some place) (same : slice ≡ rows) (ascend : Ascend rows)
+      (within : IfSome answer (λ other. other < length slice)) (holds : IfSome answer (λ other. HoldsAt (λ standing. standing.number ≡ number) slice other)) (is : row ≡ get_or rows place row) where
+    inside_there : place < length slice
+    inside_there = at_place (λ other. other < length slice) answer place is_answer within
+
+    holds_there : HoldsAt (λ standing. standing.number ≡ number) slice place
+    holds_there = at_place (λ other. HoldsAt (λ standing. standing.number ≡ number) slice other) answer place is_answer holds
+
+    pub lent_value : value_under number (pairs_of rows) ≡ row.value
+    lent_value = found number place slice rows row same ascend inside_there holds_there is
+
+    pub lent_some : IsSome (value_under number (pairs_of rows)) → is_some row.value ≡ true
+    lent_some some = subst (λ value. is_some value ≡ true) lent_value some
+
+    pub lent_changed : (was value : T) → Some was ≡ row.value
+        → pairs_of (slice_set rows place (record { number = row.number; value = Some value })) ≡ with_value number value (pairs_of rows)
+    lent_changed was value some = found_changed number place slice rows row same ascend inside_there holds_there is was value value some refl
+
+    pub lent_kept : (first_live empties : ℕ) (was value : T) → Some was ≡ row.value → AreKept rows first_live empties
+        → AreKept (slice_set rows place (record { number = row.number; value = Some value })) first_live empties
+    lent_kept first_live empties was value some kept =
+        found_kept_changed number place slice rows row same ascend inside_there holds_there is first_live empties was value some kept

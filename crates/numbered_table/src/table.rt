@@ -1,6 +1,8 @@
 //! The table.
 
-ghost use Rattle.std.specs.Prelude.{◌≡◌, ◌+◌, ◌<◌, ◌≤◌, [], ◌∷◌, ◌++◌, length, option_copied, OnOk};
+ghost use Rattle.std.specs.Prelude.{◌≡◌, ◌+◌, ◌<◌, ◌≤◌, [], ◌∷◌, ◌++◌, length, Some, option_copied, IsSome, OnOk};
+ghost use Rattle.std.specs.Option.{option_copied_mut};
+ghost use Rattle.std.specs.Borrow.{sem};
 ghost use Rattle.numbered_table.specs.Pairs.{value_under, without, with_value, AllBelow, IsAscending};
 ghost use Rattle.numbered_table.specs.Rows.{pairs_of};
 
@@ -38,6 +40,8 @@ impl<T> Model for Table<T> {
 }
 
 impl<T: Drop> Table<T> {
+    ghost use Rattle.numbered_table.specs.Lends.{lends_get, lends_value};
+
     /// No values. It takes no memory.
     pub fn new(alloc: Global) -> Table<T>
         ensures { result.pairs ≡ [] }
@@ -71,6 +75,18 @@ impl<T: Drop> Table<T> {
     {
         let place = place_of(self.rows.as_slice(), number)?;
         self.rows[place].value.as_ref()
+    }
+
+    /// The value under a number, to change it where it stands.
+    pub fn get_mut(&mut self, number: u64) -> Option<&mut T>
+        ensures* writes_back { sem 𝓛 (lends_get T.row self.entry number result) }
+        ensures value { option_copied_mut result ≡ value_under number self.old.pairs }
+    {
+        if self.get(number).is_some() {
+            Some(self.value_mut(number))
+        } else {
+            None
+        }
     }
 
     /// Makes room for so many more values. Where there is no memory, and where there is, the values stay. The places are moved
@@ -126,6 +142,16 @@ impl<T: Drop> Table<T> {
         self.empties += 1;
         self.settle();
         Some(value)
+    }
+
+    // The value under a number that is there, to change it.
+    fn value_mut(&mut self, number: u64) -> &mut T
+        requires { IsSome (value_under number self.old.pairs) }
+        ensures* writes_back { sem 𝓛 (lends_value T.row self.entry number result) }
+        ensures value { value_under number self.old.pairs ≡ Some result.now }
+    {
+        let place = place_of(self.rows.as_slice(), number).unwrap();
+        self.rows[place].value.as_mut().unwrap()
     }
 
     // Moves the places together where more than half are empty, and else only finds the first live one.
