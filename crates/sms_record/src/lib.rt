@@ -21,5 +21,5 @@ pub use address::Address;
 pub use coding::Coding;
 pub use exact_octets::RecordFault;
 pub use kind::Kind;
-pub use record::{copy_sms, read_sms, write_sms};
+pub use record::{copy_sms, put_sms, read_sms, sms_at, write_sms};
 pub use sms::Sms;

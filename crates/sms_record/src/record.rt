@@ -45,9 +45,10 @@ fn sms_of(heading: Heading, contents: Contents) -> Sms
     }
 }
 
-/// The message at the front, and what stands behind it.
+/// The message at the front, and what stands behind it, for those whose octets hold messages among other things
+/// (`sms_reads` of `proofs/Messages.antt` is its law).
 #[tactic(auto, unfolding(crate::specs::RecordReading::sms_at))]
-pub(crate) fn sms_at(alloc: Global, octets: &[u8]) -> Result<(Sms, &[u8]), ReadFault>
+pub fn sms_at(alloc: Global, octets: &[u8]) -> Result<(Sms, &[u8]), ReadFault>
     ensures { Gives (λ x. (x.0, x.1.now)) result (sms_front octets.now) }
 {
     let (heading, rest) = heading_at(alloc, octets)?;
@@ -55,8 +56,8 @@ pub(crate) fn sms_at(alloc: Global, octets: &[u8]) -> Result<(Sms, &[u8]), ReadF
     Ok((sms_of(heading, contents), rest))
 }
 
-/// Puts the record of a message last, or a front of it.
-pub(crate) fn put_sms(into: &mut Octets, sms: &Sms) -> Result<(), Memory>
+/// Puts the record of a message last, or a front of it: after `Memory` the old octets still stand first.
+pub fn put_sms(into: &mut Octets, sms: &Sms) -> Result<(), Memory>
     requires { IsSms sms.now }
     ensures ok { OnOk result (into.new ≡ into.old ++ sms_octets sms.now) }
     ensures err { OnErr result (Keeps into.old into.new) }

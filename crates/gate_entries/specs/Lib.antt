@@ -1,0 +1,5 @@
+pub use Rattle.exact_octets.specs.Fronts
+pub use Rattle.sms_record.specs.Record
+pub mod Entry
+pub mod Size
+pub mod EntryReading
