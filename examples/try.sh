@@ -38,5 +38,8 @@ tries gate.conf unknown-path.http '404 close Unknown path.'
 tries gate.conf wrong-method.http '400 close Bad request: method'
 tries gate.conf with-a-body.http '400 close Bad request: body'
 tries gate.conf no-head.http '400 close Bad request: head'
-tries gate.conf not-built.http '400 close Bad request: not built'
+tries gate.conf long-text.http "202 close $queued"
+tries gate.conf with-reports.http "202 close $queued"
+tries gate.conf wrong-receiver.http '400 close Bad request: to'
+tries gate.conf wrong-text.http '400 close Bad request: text'
 exit $failed

@@ -72,6 +72,29 @@ asks "a form in the body, which curl posts" 'Bad request: method 400 close 1' "$
 asks "the same as a GET" 'Bad request: body 400 close 1' -X GET "$url" -d "$form&text=hello"
 asks "a HEAD" ' 400 keep-alive 1' -I -o /dev/null "$url?$form&text=hello"
 
+# ---- each variable: it is taken, and what it may not hold is named
+user='username=tester&password=foobar'
+long() { head -c "$1" /dev/zero | tr '\0' a; }
+asks "every variable" "$queued keep-alive 1" -G "$url?$form&text=hello&coding=1&mclass=1&charset=utf-8&validity=60&deferred=5&dlr-mask=31" \
+    --data-urlencode 'udh='"$(printf '\003p\001x')" -d smsc=main -d dlr-url=u -d account=shop
+stored=$((stored + 71 + 4 + 4 + 1 + 4))
+asks "two receivers of a text in two parts" "$queued keep-alive 1" "$url?$user&from=123&to=0123456+42&text=$(long 161)"
+stored=$((stored + 5 + 11 + 50 + 153 + 50 + 8 + 45 + 153 + 45 + 8))
+refuses() { asks "$1 that is wrong" "Bad request: $1 400 keep-alive 1" "$url?$user&$2"; }
+refuses to "to=0123456+x&from=123"
+refuses from "to=0123456&from=a_b"
+refuses coding "$form&coding=3"
+refuses mclass "$form&mclass=4"
+refuses charset "$form&charset=latin1"
+refuses udh "$form&udh=%05"
+refuses smsc "$form&smsc=$(long 65)"
+refuses validity "$form&validity=43201"
+refuses deferred "$form&deferred=43201"
+refuses dlr-mask "$form&dlr-mask=32"
+refuses dlr-url "$form&dlr-url=$(long 2049)"
+refuses account "$form&account=$(long 65)"
+refuses text "$form&text=%FF"
+
 sleep 0.3
 size=$(wc -c < gate.store.a)
 if [ "$size" = "$stored" ]; then

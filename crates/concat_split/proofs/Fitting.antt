@@ -1,18 +1,20 @@
--- Each part and the header that goes out with it fit in one message.
+-- Each part and the header that goes out with it fit in one message, and is of the text's coding.
 use Rattle.std.proofs.Common.{◌≡◌, ℕ, zero, suc, ◌+◌, ◌-◌, ◌%◌, ◌<◌, ◌≤◌, Bool, true, false, cond, eqb, leb, ltb, ◌&&◌, List, [], ◌∷◌, ◌++◌, length, drop, Ok, refl, sym, ap, subst, ◌∙◌, arith, inl, inr, length-append}
 use Rattle.std.proofs.lemmas.Bool.{cases_Bool, leb-true, ltb-false, eqb-true, eqb-false, le-ltb, cases_lt}
+use Rattle.std.proofs.lemmas.List.Elements.{All-nil, All-cons, All-head, All-tail, All-append}
 use Rattle.std.specs.List.{concat, AllByRecursion}
 use Rattle.sms_record.specs.declared.coding.Coding.{Coding}
 use Rattle.sms_record.specs.declared.coding.Coding.TheVariants.{Seven, Eight, Ucs2}
+use Rattle.sms_record.specs.Record.{IsOfCoding}
 use Rattle.sms_record.specs.Room.{cap, header_len}
 use Rattle.concat_split.specs.declared.limits.Limits.{Limits}
 use Rattle.concat_split.specs.declared.part.Part.{Part}
-use Rattle.concat_split.specs.Characters.{characters, unit_characters, is_high, is_low, units}
-use Rattle.concat_split.specs.Parts.{front, broken, round, wrapped, texts, alone, numbered, room_of, around_of, parts_of, IsOfCoding, AreLimits}
-use Rattle.concat_split.specs.Kept.{message_octets, FitsMessage}
+use Rattle.concat_split.specs.Characters.{characters, septet_characters, unit_characters, is_high, is_low, units}
+use Rattle.concat_split.specs.Parts.{front, broken, round, wrapped, texts, alone, numbered, room_of, around_of, parts_of, AreLimits}
+use Rattle.concat_split.specs.Kept.{message_octets, IsPart, AreParts}
 use Rattle.concat_split.proofs.Cuts.{IsFront}
 use Rattle.concat_split.proofs.Fronts.{front_first, broken_first, first_first}
-use Rattle.concat_split.proofs.Texts.{last_test, length-texts}
+use Rattle.concat_split.proofs.Texts.{last_test, length-texts, length-alone, length-numbered}
 use Rattle.concat_split.proofs.Shares.{concat-append, split_cases}
 
 -- each of these is of the coding
@@ -34,13 +36,16 @@ units_mono Seven a b h = h
 units_mono Eight a b h = h
 units_mono Ucs2 a b h = omega arith
 
+abbrev IsSeptet : ℕ → Type 0
+IsSeptet septet = septet < 128
+
 of_none : (coding : Coding) → IsOfCoding coding []
-of_none Seven = tt
+of_none Seven = All-nil IsSeptet
 of_none Eight = tt
 of_none Ucs2 = refl
 
 of_append : (coding : Coding) (a b : List ℕ) → IsOfCoding coding a → IsOfCoding coding b → IsOfCoding coding (a ++ b)
-of_append Seven a b g h = tt
+of_append Seven a b g h = All-append IsSeptet a b g h
 of_append Eight a b g h = tt
 of_append Ucs2 a b g h = omega (arith, g, h, length-append a b)
 
@@ -60,16 +65,25 @@ units_whole (h ∷ l ∷ i ∷ m ∷ rest) even =
       | inr e ↦ rw e (refl, units_whole (i ∷ m ∷ rest) (omega arith))
     ]
 
-seven_whole : (cs : List (List ℕ)) → AllOf Seven cs
-seven_whole [] = tt
-seven_whole (c ∷ cs) = (tt, seven_whole cs)
+seven_whole : (text : List ℕ) → IsOfCoding Seven text → AllOf Seven (septet_characters text)
+seven_whole [] h = tt
+seven_whole (s ∷ []) h = (h, tt)
+seven_whole (s ∷ t ∷ rest) h =
+    let first : s < 128 = All-head IsSeptet s (t ∷ rest) h in
+    let behind : IsOfCoding Seven (t ∷ rest) = All-tail IsSeptet s (t ∷ rest) h in
+    elim (cases_Bool (eqb s 27)) [
+      | inl e ↦
+          let second : t < 128 = All-head IsSeptet t rest behind in
+          rw e (All-cons IsSeptet s (t ∷ []) first (All-cons IsSeptet t [] second (All-nil IsSeptet)), seven_whole rest (All-tail IsSeptet t rest behind))
+      | inr e ↦ rw e (All-cons IsSeptet s [] first (All-nil IsSeptet), seven_whole (t ∷ rest) behind)
+    ]
 
 eight_whole : (cs : List (List ℕ)) → AllOf Eight cs
 eight_whole [] = tt
 eight_whole (c ∷ cs) = (tt, eight_whole cs)
 
 characters_whole : (coding : Coding) (text : List ℕ) → IsOfCoding coding text → AllOf coding (characters coding text)
-characters_whole Seven text h = seven_whole (characters Seven text)
+characters_whole Seven text h = seven_whole text h
 characters_whole Eight text h = eight_whole (characters Eight text)
 characters_whole Ucs2 text h = units_whole text h
 
@@ -157,18 +171,26 @@ cap_octets Seven header text short h = omega (arith, h.1)
 cap_octets Eight header text short h = omega (arith, h.1)
 cap_octets Ucs2 header text short h = omega (arith, h.0, h.1)
 
-part_fits : (coding : Coding) (udh header total k : ℕ) (text : List ℕ) → header_len udh total ≤ header → header ≤ 140 → Fit coding (cap coding header) text → FitsMessage coding udh (record { body = text; total = total; part = k })
-part_fits coding udh header total k text le short f =
+part_fits : (coding : Coding) (udh header total k : ℕ) (limits : Limits) (text : List ℕ) → header_len udh total ≤ header → header ≤ 140
+    → Fit coding (cap coding header) text → 1 ≤ k → k ≤ total → total ≤ limits.parts → IsPart coding udh limits (record { body = text; total = total; part = k })
+part_fits coding udh header total k limits text le short f some among few =
     let whole = cap_octets coding header text short f in
-    omega arith
+    record { fits = omega arith; coded = f.0; among = (some, among); few = few }
 
-numbered_fit : (coding : Coding) (udh header total k : ℕ) (ts : List (List ℕ)) → header_len udh total ≤ header → header ≤ 140 → AllByRecursion (Fit coding (cap coding header)) ts → AllByRecursion (FitsMessage coding udh) (numbered total k ts)
-numbered_fit coding udh header total k [] le short f = tt
-numbered_fit coding udh header total k (t ∷ ts) le short f = (part_fits coding udh header total k t le short f.0, numbered_fit coding udh header total (k + 1) ts le short f.1)
+numbered_fit : (coding : Coding) (udh header total k : ℕ) (limits : Limits) (ts : List (List ℕ)) → header_len udh total ≤ header → header ≤ 140
+    → 1 ≤ k → k + length ts ≤ total + 1 → total ≤ limits.parts
+    → AllByRecursion (Fit coding (cap coding header)) ts → AllByRecursion (IsPart coding udh limits) (numbered total k ts)
+numbered_fit coding udh header total k limits [] le short some among few f = tt
+numbered_fit coding udh header total k limits (t ∷ ts) le short some among few f =
+    let one : k + suc (length ts) ≤ total + 1 = among in
+    (part_fits coding udh header total k limits t le short f.0 some (omega arith) few,
+      numbered_fit coding udh header total (k + 1) limits ts le short (omega arith) (omega arith) few f.1)
 
-alone_fit : (coding : Coding) (udh header : ℕ) (ts : List (List ℕ)) → udh ≤ header → header ≤ 140 → AllByRecursion (Fit coding (cap coding header)) ts → AllByRecursion (FitsMessage coding udh) (alone ts)
-alone_fit coding udh header [] le short f = tt
-alone_fit coding udh header (t ∷ ts) le short f = (part_fits coding udh header 1 1 t le short f.0, alone_fit coding udh header ts le short f.1)
+alone_fit : (coding : Coding) (udh header : ℕ) (limits : Limits) (ts : List (List ℕ)) → udh ≤ header → header ≤ 140 → 1 ≤ limits.parts
+    → AllByRecursion (Fit coding (cap coding header)) ts → AllByRecursion (IsPart coding udh limits) (alone ts)
+alone_fit coding udh header limits [] le short some f = tt
+alone_fit coding udh header limits (t ∷ ts) le short some f =
+    (part_fits coding udh header 1 1 limits t le short f.0 (omega arith) (omega arith) some, alone_fit coding udh header limits ts le short some f.1)
 
 -- the header that goes out with one of so many parts is none longer than with one of two
 header_two : (udh total : ℕ) → header_len udh total ≤ header_len udh 2
@@ -195,21 +217,47 @@ header_one udh total le =
     rw test (omega arith)
 
 -- parts of these texts fit, whether they are joined or not
-either_fit : (coding : Coding) (udh header total : ℕ) (joined : Bool) (ts : List (List ℕ)) → (joined ≡ true → header_len udh total ≤ header) → udh ≤ header → header ≤ 140 → AllByRecursion (Fit coding (cap coding header)) ts → AllByRecursion (FitsMessage coding udh) (cond joined (numbered total 1 ts) (alone ts))
-either_fit coding udh header total true ts le low short f = numbered_fit coding udh header total 1 ts (le refl) short f
-either_fit coding udh header total false ts le low short f = alone_fit coding udh header ts low short f
+either_fit : (coding : Coding) (udh header : ℕ) (limits : Limits) (joined : Bool) (ts : List (List ℕ)) → (joined ≡ true → header_len udh (length ts) ≤ header)
+    → udh ≤ header → header ≤ 140 → 1 ≤ length ts → length ts ≤ limits.parts
+    → AllByRecursion (Fit coding (cap coding header)) ts → AreParts coding udh limits (cond joined (numbered (length ts) 1 ts) (alone ts))
+either_fit coding udh header limits true ts le low short some few f =
+    let same = length-numbered (length ts) 1 ts in
+    record { some = omega arith; few = omega arith; each = numbered_fit coding udh header (length ts) 1 limits ts (le refl) short (omega arith) (omega arith) few f }
+either_fit coding udh header limits false ts le low short some few f =
+    let same = length-alone ts in
+    record { some = omega arith; few = omega arith; each = alone_fit coding udh header limits ts low short (omega arith) f }
 
-pub parts_fit : (coding : Coding) (body : List ℕ) (udh : ℕ) (limits : Limits) → udh ≤ 60 → IsOfCoding coding body → AreLimits coding limits → (ps : List Part) → parts_of coding body udh limits ≡ Ok ps → AllByRecursion (FitsMessage coding udh) ps
+-- a text has a part
+some_texts : (coding : Coding) (room : ℕ) (limits : Limits) (left : ℕ) (cs : List (List ℕ)) → 1 ≤ left → 1 ≤ length (texts coding room limits left cs)
+some_texts coding room limits zero cs some = absurd (omega arith)
+some_texts coding room limits (suc n) cs some =
+    elim (cases_Bool (last_test coding room limits (concat cs))) [
+      | inl t ↦ rw t (omega arith)
+      | inr t ↦ elim (cases_Bool (eqb n 0)) [
+        | inl e ↦ rw (t, e) (omega arith)
+        | inr e ↦ rw (t, e) (omega arith)
+      ]
+    ]
+
+pub parts_fit : (coding : Coding) (body : List ℕ) (udh : ℕ) (limits : Limits) → udh ≤ 60 → IsOfCoding coding body → AreLimits coding limits
+    → (ps : List Part) → parts_of coding body udh limits ≡ Ok ps → AreParts coding udh limits ps
 parts_fit coding body udh limits short of a ps e =
     let room : ℕ = room_of coding udh limits in
     let cs : List (List ℕ) = characters coding body in
     let ts : List (List ℕ) = texts coding room limits limits.parts cs in
-    let goal : List Part → Type 0 = AllByRecursion (FitsMessage coding udh) in
+    let goal : List Part → Type 0 = AreParts coding udh limits in
     let whole = characters_whole coding body of in
+    let some = some_texts coding room limits limits.parts cs a.some in
+    let few = length-texts coding room limits limits.parts cs in
     elim (split_cases coding body udh limits ps e) [
       | inl w ↦
           let fits = wrapped_fits coding (cap coding udh) limits body a of (leb-true _ _ w.0) in
-          subst goal (sym w.1) (alone_fit coding udh udh (wrapped limits body ∷ []) (omega arith) (omega arith) (fits, tt))
+          let at_least : 1 ≤ limits.parts = a.some in
+          subst goal (sym w.1) (record {
+            some = omega arith;
+            few = omega arith;
+            each = alone_fit coding udh udh limits (wrapped limits body ∷ []) (omega arith) (omega arith) at_least (fits, tt);
+          })
       | inr w ↦
           let enough : around_of coding limits + 2 ≤ room = ltb-false _ _ w.0 in
           elim (cases_Bool (eqb limits.parts 1)) [
@@ -219,8 +267,7 @@ parts_fit coding body udh limits short of a ps e =
                 let around-is : around_of coding limits ≡ round coding limits = rw one refl in
                 let fits = texts_fit coding room limits limits.parts cs a (omega arith) (λ lt. absurd (omega arith)) whole in
                 let there = subst (λ (r : ℕ). AllByRecursion (Fit coding r) ts) room-is fits in
-                let few = length-texts coding room limits limits.parts cs in
-                subst goal (sym w.1) (either_fit coding udh udh (length ts) limits.concatenate ts (λ c. header_one udh (length ts) (omega arith)) (omega arith) (omega arith) there)
+                subst goal (sym w.1) (either_fit coding udh udh limits limits.concatenate ts (λ c. header_one udh (length ts) (omega arith)) (omega arith) (omega arith) some few there)
             | inr more ↦
                 let header : ℕ = header_len udh (cond limits.concatenate 2 1) in
                 let room-is : room ≡ cap coding header = rw more refl in
@@ -228,7 +275,7 @@ parts_fit coding body udh limits short of a ps e =
                 let fits = texts_fit coding room limits limits.parts cs a (omega arith) (λ lt. omega arith) whole in
                 let there = subst (λ (r : ℕ). AllByRecursion (Fit coding r) ts) room-is fits in
                 let bounds = joined_header limits.concatenate (length ts) in
-                subst goal (sym w.1) (either_fit coding udh header (length ts) limits.concatenate ts bounds.0 bounds.1 bounds.2 there)
+                subst goal (sym w.1) (either_fit coding udh header limits limits.concatenate ts bounds.0 bounds.1 bounds.2 some few there)
           ]
     ]
   where

@@ -1,8 +1,9 @@
 -- What the parts of a text keep of it, in words of the text and its parts alone.
 use Rattle.std.specs.Prelude.{◌≡◌, ℕ, ◌+◌, ◌*◌, ◌/◌, ◌<◌, ◌≤◌, List, [], ◌∷◌, ◌++◌, length, map}
-use Rattle.std.specs.List.{concat, flat_map}
+use Rattle.std.specs.List.{concat, flat_map, AllByRecursion}
 use Rattle.sms_record.specs.declared.coding.Coding.{Coding}
 use Rattle.sms_record.specs.declared.coding.Coding.TheVariants.{Seven, Eight, Ucs2}
+use Rattle.sms_record.specs.Record.{IsOfCoding}
 use Rattle.sms_record.specs.Room.{header_len}
 use Rattle.concat_split.specs.declared.limits.Limits.{Limits}
 use Rattle.concat_split.specs.declared.part.Part.{Part}
@@ -15,9 +16,19 @@ message_octets Seven text = (7 * length text + 7) / 8
 message_octets Eight text = length text
 message_octets Ucs2 text = length text
 
--- a part and the header that goes out with it fit in one message (GSM 03.40 9.2.3.16)
-abbrev pub FitsMessage : Coding → ℕ → Part → Type 0
-FitsMessage coding udh part = header_len udh part.total + message_octets coding part.body ≤ 140
+-- One part: it and the header that goes out with it fit in one message (GSM 03.40 9.2.3.16), it is of the text's coding, and it is one of
+-- at most so many.
+pub record IsPart (coding : Coding) (udh : ℕ) (limits : Limits) (part : Part) : Type 0 where
+  pub fits : header_len udh part.total + message_octets coding part.body ≤ 140
+  pub coded : IsOfCoding coding part.body
+  pub among : (1 ≤ part.part) × (part.part ≤ part.total)
+  pub few : part.total ≤ limits.parts
+
+-- one part at least, and no more than there may be
+pub record AreParts (coding : Coding) (udh : ℕ) (limits : Limits) (parts : List Part) : Type 0 where
+  pub some : 1 ≤ length parts
+  pub few : length parts ≤ limits.parts
+  pub each : AllByRecursion (IsPart coding udh limits) parts
 
 -- the bodies of parts that have these characters: header, characters, suffix, footer, but no suffix in the last
 abbrev pub bodies_of : Limits → List (List (List ℕ)) → List (List ℕ)

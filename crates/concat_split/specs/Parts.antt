@@ -4,6 +4,7 @@ use Rattle.std.specs.List.{concat, list_any}
 use Rattle.std.specs.Str.{bytes_eq}
 use Rattle.sms_record.specs.declared.coding.Coding.{Coding}
 use Rattle.sms_record.specs.declared.coding.Coding.TheVariants.{Seven, Eight, Ucs2}
+use Rattle.sms_record.specs.Record.{IsOfCoding}
 use Rattle.sms_record.specs.Room.{cap, header_len}
 use Rattle.concat_split.specs.declared.limits.Limits.{Limits}
 use Rattle.concat_split.specs.declared.part.Part.{Part}
@@ -90,12 +91,6 @@ parts_of coding body udh limits =
 abbrev pub IsFaultOf : Result (List Part) SplitFault → SplitFault → Type 0
 IsFaultOf parts (NoRoom room around) = parts ≡ Err (NoRoom room around)
 IsFaultOf parts Memory = Unit {0}
-
--- a text of UCS-2 units has an even number of octets
-abbrev pub IsOfCoding : Coding → List ℕ → Type 0
-IsOfCoding Seven text = Unit {0}
-IsOfCoding Eight text = Unit {0}
-IsOfCoding Ucs2 text = length text % 2 ≡ 0
 
 -- what stands round a text has so few octets that NoRoom can tell how many
 abbrev pub AreShort : Limits → Type 0

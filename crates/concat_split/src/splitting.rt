@@ -1,11 +1,11 @@
 //! A text, cut into parts.
 
 ghost use Rattle.std.specs.Prelude.{◌≡◌, ◌<◌, ◌≤◌, ◌+◌, ◌-◌, ◌^◌, ◌++◌, [], ◌∷◌, length, take, map, nat_le, IfOk, IfErr, OnOk, Ok, if◌then◌else◌};
-ghost use Rattle.std.specs.List.{AllByRecursion};
+ghost use Rattle.sms_record.specs.Record.{IsOfCoding};
 ghost use Rattle.sms_record.specs.Room.{cap, header_len};
 ghost use Rattle.concat_split.specs.Characters.{characters, units};
-ghost use Rattle.concat_split.specs.Parts.{front, round, wrapped, texts, alone, numbered, room_of, around_of, parts_of, last_text, Takes, IsFaultOf, AreShort, AreLimits, IsOfCoding};
-ghost use Rattle.concat_split.specs.Kept.{FitsMessage, IsSharedOut};
+ghost use Rattle.concat_split.specs.Parts.{front, round, wrapped, texts, alone, numbered, room_of, around_of, parts_of, last_text, Takes, IsFaultOf, AreShort, AreLimits};
+ghost use Rattle.concat_split.specs.Kept.{AreParts, IsSharedOut};
 
 use crate::characters::{broken_len, units_of};
 use crate::{Limits, Part, SplitFault};
@@ -270,7 +270,7 @@ pub fn split(
     ensures fault { IfErr result (IsFaultOf (parts_of coding body.now udh limits.now)) }
 
     // Each part and its header are one message, and no character of the text is cut.
-    ensures fits { IfOk result (λ parts. AllByRecursion (FitsMessage coding udh) parts.items) }
+    ensures each { IfOk result (λ parts. AreParts coding udh limits.now parts.items) }
     ensures kept { IfOk result (λ parts. IsSharedOut coding body.now limits.now parts.items) }
 {
     split_as_defined(alloc, body, coding, udh, limits)

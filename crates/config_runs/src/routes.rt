@@ -6,6 +6,7 @@ use config_groups::read_config;
 use kn_base::{Charset, MemShelf, Memory, Octets};
 use line_cases::{both, cut_at, cut_item, number, octet, octets_of, put_named};
 use route_rules::{Fit, LinkKind, Rules, assign, carries, routable, usable};
+use sms_lines::coding_of;
 use sms_record::{Address, Coding, Sms};
 use std::alloc::Global;
 
@@ -194,16 +195,6 @@ pub fn put_route(alloc: Global, text: &[u8], report: &mut Octets) -> Result<(), 
     let smsc = word(alloc, smsc)?;
     let sms = message(alloc, ends, texts, smsc, (Coding::Seven, 1));
     put_links(alloc, (up, flight), links, &sms, report)
-}
-
-fn coding_of(text: &[u8]) -> Coding {
-    if text == b"seven".as_slice() {
-        Coding::Seven
-    } else if text == b"eight".as_slice() {
-        Coding::Eight
-    } else {
-        Coding::Ucs2
-    }
 }
 
 fn kind_of(text: &[u8]) -> LinkKind {

@@ -1,9 +1,9 @@
 //! A form as a line.
 
-use kn_base::{Charset, Memory, Octets, write_hex};
+use kn_base::{Memory, Octets};
 use line_cases::put_named;
 use sendsms_form::{Form, Handling, Manner, Parties, Tracking};
-use sms_record::{Address, Coding};
+use sms_lines::{charset_name, coding_name, put_address, put_hex, put_octets};
 
 /// Puts a form last: to whom and from whom, how it is read, what becomes of it, what is to be heard of it, and its body in hex.
 pub fn put_form(report: &mut Octets, form: &Form) -> Result<(), Memory> {
@@ -23,43 +23,6 @@ fn put_parties(report: &mut Octets, parties: &Parties) -> Result<(), Memory> {
     put_address(report, &parties.sender)
 }
 
-fn put_address(report: &mut Octets, address: &Address) -> Result<(), Memory> {
-    match address {
-        Address::Number { plus: true, digits } => put_text(report, b" +", digits.as_slice()),
-        Address::Number {
-            plus: false,
-            digits,
-        } => put_text(report, b" ", digits.as_slice()),
-        Address::Text(text) => put_text(report, b" text:", text.as_slice()),
-    }
-}
-
-fn put_text(report: &mut Octets, name: &[u8], text: &[u8]) -> Result<(), Memory> {
-    report.extend_from_slice(name)?;
-    report.extend_from_slice(text)
-}
-
-fn put_hex(report: &mut Octets, name: &[u8], octets: &[u8]) -> Result<(), Memory> {
-    report.extend_from_slice(name)?;
-    write_hex(report, octets)
-}
-
-fn coding_name(coding: Coding) -> &'static [u8] {
-    match coding {
-        Coding::Seven => b" seven",
-        Coding::Eight => b" eight",
-        Coding::Ucs2 => b" ucs2",
-    }
-}
-
-fn charset_name(charset: Charset) -> &'static [u8] {
-    match charset {
-        Charset::Utf8 => b" utf8",
-        Charset::Latin1 => b" latin1",
-        Charset::Utf16Be => b" utf16be",
-    }
-}
-
 fn put_manner(report: &mut Octets, manner: &Manner) -> Result<(), Memory> {
     report.extend_from_slice(coding_name(manner.coding))?;
     if let Some(class) = manner.class {
@@ -70,13 +33,13 @@ fn put_manner(report: &mut Octets, manner: &Manner) -> Result<(), Memory> {
 }
 
 fn put_handling(report: &mut Octets, handling: &Handling) -> Result<(), Memory> {
-    put_text(report, b" smsc ", handling.smsc.as_slice())?;
+    put_octets(report, b" smsc ", handling.smsc.as_slice())?;
     put_named(report, b" validity ", u64::from(handling.validity))?;
     put_named(report, b" deferred ", u64::from(handling.deferred))
 }
 
 fn put_tracking(report: &mut Octets, tracking: &Tracking) -> Result<(), Memory> {
     put_named(report, b" mask ", u64::from(tracking.mask))?;
-    put_text(report, b" url ", tracking.url.as_slice())?;
-    put_text(report, b" account ", tracking.account.as_slice())
+    put_octets(report, b" url ", tracking.url.as_slice())?;
+    put_octets(report, b" account ", tracking.account.as_slice())
 }

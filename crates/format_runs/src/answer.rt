@@ -7,7 +7,7 @@ use line_cases::{cut_at, put_named};
 use std::alloc::Global;
 
 /// The answers with their names. Of `Bad request: NAME` it is NAME.
-static ANSWERS: [(&str, Answer); 24] = [
+static ANSWERS: [(&str, Answer); 23] = [
     ("accepted", Answer::Accepted),
     ("queued", Answer::Queued),
     ("unauthorized", Answer::Unauthorized),
@@ -31,7 +31,6 @@ static ANSWERS: [(&str, Answer); 24] = [
     ("dlr-url", Answer::BadRequest(Spot::DlrUrl)),
     ("account", Answer::BadRequest(Spot::Account)),
     ("text", Answer::BadRequest(Spot::Text)),
-    ("not built", Answer::BadRequest(Spot::NotBuilt)),
 ];
 
 /// The answer of a name, and `OutOfMemory` of another.
@@ -49,11 +48,30 @@ pub fn name_of(answer: Answer) -> &'static [u8] {
     match answer {
         Answer::Unauthorized => b"unauthorized",
         Answer::UnknownPath => b"unknown path",
-        Answer::BadRequest(Spot::Head) => b"head",
-        Answer::BadRequest(Spot::Method) => b"method",
-        Answer::BadRequest(Spot::Body) => b"body",
-        Answer::BadRequest(Spot::NotBuilt) => b"not built",
+        Answer::BadRequest(spot) => spot_name(spot),
         _ => b"another answer",
+    }
+}
+
+/// The name of what is wrong with a request.
+fn spot_name(spot: Spot) -> &'static [u8] {
+    match spot {
+        Spot::Head => b"head",
+        Spot::Method => b"method",
+        Spot::Body => b"body",
+        Spot::To => b"to",
+        Spot::From => b"from",
+        Spot::Coding => b"coding",
+        Spot::Mclass => b"mclass",
+        Spot::Charset => b"charset",
+        Spot::Udh => b"udh",
+        Spot::Smsc => b"smsc",
+        Spot::Validity => b"validity",
+        Spot::Deferred => b"deferred",
+        Spot::DlrMask => b"dlr-mask",
+        Spot::DlrUrl => b"dlr-url",
+        Spot::Account => b"account",
+        Spot::Text => b"text",
     }
 }
 

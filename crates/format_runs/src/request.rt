@@ -6,10 +6,11 @@ use crate::answer::name_of;
 use crate::conf::{PLAIN, put_refused, settings_of};
 use config_groups::Settings;
 use http_text::Head;
-use kn_base::{Charset, Memory, Octets};
-use line_cases::{cut_at, cut_item, octets_of, put_named, put_text};
+use kn_base::{Memory, Octets};
+use line_cases::{cut_at, cut_item, octets_of, put_text};
 use sendsms_http::asked;
-use sms_record::{Address, Coding, Sms};
+use sms_lines::put_sms;
+use sms_record::Sms;
 use std::alloc::Global;
 
 /// Whether one of the words between `-` is this one.
@@ -85,63 +86,10 @@ pub fn put_message(alloc: Global, text: &[u8], report: &mut Octets) -> Result<()
     put_line(alloc, text, true, report)
 }
 
-/// Puts messages last.
+/// Puts messages last, a line each.
 fn put_messages(report: &mut Octets, parts: &[Sms]) -> Result<(), Memory> {
     for part in parts {
-        put_texts_of(report, part)?;
-        put_numbers(report, part)?;
-    }
-    Ok(())
-}
-
-fn digits_of(address: &Address) -> &[u8] {
-    match address {
-        Address::Number {
-            plus: false,
-            digits,
-        } => digits.as_slice(),
-        _ => b"no number",
-    }
-}
-
-/// Puts the texts of a message last.
-fn put_texts_of(report: &mut Octets, sms: &Sms) -> Result<(), Memory> {
-    for text in [
-        digits_of(&sms.sender),
-        digits_of(&sms.receiver),
-        sms.body.as_slice(),
-        sms.service.as_slice(),
-    ] {
-        put_text(report, text)?;
-        report.extend_from_slice(b" | ")?;
-    }
-    Ok(())
-}
-
-/// The numbers of a message, and the lengths of what it may lack.
-fn numbers_of(sms: &Sms) -> [u64; 13] {
-    [
-        u64::from(sms.coding == Coding::Seven),
-        u64::from(sms.charset == Charset::Utf8),
-        u64::from(sms.class.is_none()),
-        u64::from(sms.total),
-        u64::from(sms.part),
-        u64::from(sms.mask),
-        u64::from(sms.validity),
-        u64::from(sms.deferred),
-        sms.time,
-        sms.udh.len() as u64,
-        sms.smsc.len() as u64,
-        sms.url.len() as u64,
-        sms.account.len() as u64,
-    ]
-}
-
-/// Puts the numbers of a message last.
-fn put_numbers(report: &mut Octets, sms: &Sms) -> Result<(), Memory> {
-    let numbers = numbers_of(sms);
-    for number in numbers.as_slice() {
-        put_named(report, b" ", *number)?;
+        put_sms(report, b"\n        ", part)?;
     }
     Ok(())
 }

@@ -1,12 +1,14 @@
 //! Texts with the parts that they have, and headers with what they say.
 
-ghost use Rattle.std.specs.Prelude.{◌≡◌, ◌↔◌, ◌<◌, ◌≤◌, IsTrue, IfOk, length};
+ghost use Rattle.std.specs.Prelude.{◌≡◌, ◌↔◌, ◌<◌, ◌≤◌, IsTrue, IfOk, All, length};
 ghost use Rattle.sms_record.specs.Header.{IsHeaderOrNone};
-ghost use Rattle.concat_split.specs.Parts.{AreLimits, IsOfCoding};
+ghost use Rattle.sms_record.specs.Record.{IsOfCoding};
+ghost use Rattle.concat_split.specs.Parts.{AreLimits};
 
 use concat_split::{HeaderFault, Joint, Limits, Part, SplitFault, read_udh, split, udh_of};
 use kn_base::{Charset, Memory, Octets, write_hex};
 use line_cases::{both, cut_at, number, octet, octets_of, put_named};
+use sms_lines::coding_of;
 use sms_record::{Address, Coding, Sms};
 use std::alloc::Global;
 
@@ -38,12 +40,20 @@ fn limits_of(alloc: Global, text: &[u8]) -> Result<(Limits, &[u8]), Memory> {
     Ok((limits, text))
 }
 
-/// Whether a text has whole units.
+/// Whether each octet is a septet.
+fn are_septets(octets: &[u8]) -> bool
+    ensures { IsTrue result ↔ All (λ septet. septet < 128) octets.now }
+{
+    octets.iter().all(|octet| *octet < 128)
+}
+
+/// Whether a text is septets, octets or whole units.
 fn is_of_coding(coding: Coding, text: &[u8]) -> bool
     ensures { IsTrue result ↔ IsOfCoding coding text.now }
 {
     match coding {
-        Coding::Seven | Coding::Eight => true,
+        Coding::Seven => are_septets(text),
+        Coding::Eight => true,
         Coding::Ucs2 => text.len() % 2 == 0,
     }
 }
@@ -93,16 +103,6 @@ fn put_parts(
             put_named(report, b" around ", around as u64)
         }
         Err(SplitFault::Memory) => Err(Memory),
-    }
-}
-
-fn coding_of(text: &[u8]) -> Coding {
-    if text == b"seven".as_slice() {
-        Coding::Seven
-    } else if text == b"eight".as_slice() {
-        Coding::Eight
-    } else {
-        Coding::Ucs2
     }
 }
 

@@ -4,7 +4,7 @@ use Rattle.http_text.specs.Response.{response_text}
 use Rattle.http_text.specs.declared.answer.Answer.{Answer}
 use Rattle.http_text.specs.declared.answer.Answer.TheVariants.{Accepted, Queued, BadRequest, UnknownPath, Unauthorized, NotRoutable, Unavailable, OutOfMemory}
 use Rattle.http_text.specs.declared.answer.spot.Spot.{Spot}
-use Rattle.http_text.specs.declared.answer.spot.Spot.TheVariants.{Head, Method, Body, To, From, Coding, Mclass, Charset, Udh, Smsc, Validity, Deferred, DlrMask, DlrUrl, Account, Text, NotBuilt}
+use Rattle.http_text.specs.declared.answer.spot.Spot.TheVariants.{Head, Method, Body, To, From, Coding, Mclass, Charset, Udh, Smsc, Validity, Deferred, DlrMask, DlrUrl, Account, Text}
 
 -- the name of what is wrong with a request
 abbrev pub spot_name : Spot → List ℕ
@@ -24,7 +24,6 @@ spot_name DlrMask = codes "dlr-mask"
 spot_name DlrUrl = codes "dlr-url"
 spot_name Account = codes "account"
 spot_name Text = codes "text"
-spot_name NotBuilt = codes "not built"
 
 -- The code of an answer with its reason (RFC 9110 15), and its body.
 pub record Row : Type 0 where

@@ -1,7 +1,10 @@
 //! The form of a request.
 
-ghost use Rattle.std.specs.Prelude.{◌≡◌, ◌⊎◌, IfOk, IfErr};
+ghost use Rattle.std.specs.Prelude.{◌≡◌, ◌⊎◌, IfOk, IfErr, IfSome};
+ghost use Rattle.config_groups.specs.Ranges.{IsUser};
+ghost use Rattle.config_values.specs.Forms.{IsSender};
 ghost use Rattle.sendsms_form.specs.Form as spec;
+ghost use Rattle.sendsms_form.specs.Ranges.{IsForm};
 
 use crate::handling::read_handling;
 use crate::manner::read_manner;
@@ -31,8 +34,22 @@ pub struct Form {
 ///
 /// `BadRequest` with the first variable of the table that is wrong: `to` where it isn't 1 to 50 numbers, and so on to `text` where it isn't
 /// right in its charset (docs/FORMATS.md, 'A request of sendsms'). `OutOfMemory` may stand in the place of any answer.
-#[tactic(auto, unfolding(crate::specs::Form::form_of))]
 pub fn read_form(
+    alloc: Global,
+    user: &User,
+    common: &Option<Address>,
+    pairs: &[Pair],
+) -> Result<Form, Answer>
+    ensures form { IfOk result (λ form. spec.form_of user.now common.now pairs.now ≡ Ok form) }
+    ensures refusal { IfErr result (λ answer. (answer ≡ Answer.OutOfMemory) ⊎ (spec.form_of user.now common.now pairs.now ≡ Err answer)) }
+    ensures within { IsUser user.now → IfSome common.now IsSender → IfOk result IsForm }
+{
+    form_as_defined(alloc, user, common, pairs)
+}
+
+// The form, as it is defined.
+#[tactic(auto, unfolding(crate::specs::Form::form_of))]
+fn form_as_defined(
     alloc: Global,
     user: &User,
     common: &Option<Address>,

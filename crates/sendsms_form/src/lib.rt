@@ -5,6 +5,8 @@
 //!
 //! The one contract: a form is the one that the table's definition gives of the pairs, and what is refused is refused at the first
 //! variable of the table that is wrong.
+//!
+//! `body_of` brings a text into the coding of a message.
 #![tactic(auto)]
 
 mod form;
@@ -20,5 +22,6 @@ pub use form::{Form, read_form};
 pub use handling::Handling;
 pub use manner::Manner;
 pub use pairs::{Pair, read_pairs, value};
-pub use parties::Parties;
+pub use parties::{Parties, copy_address};
+pub use text::body_of;
 pub use tracking::Tracking;

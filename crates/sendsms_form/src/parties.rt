@@ -164,8 +164,12 @@ fn copy_sender(alloc: Global, sender: &Option<Address>) -> Result<Option<Address
     }
 }
 
-fn copy_address(alloc: Global, address: &Address) -> Result<Address, Memory>
-    ensures { IfOk result (λ copy. copy ≡ address.now) }
+/// An equal address, in memory of its own.
+///
+/// # Errors
+/// `Memory`.
+pub fn copy_address(alloc: Global, address: &Address) -> Result<Address, Memory>
+    ensures copy { IfOk result (λ copy. copy ≡ address.now) }
 {
     match address {
         Address::Number { plus, digits } => {

@@ -8,14 +8,18 @@ use kn_base::{Charset, Memory, Octets};
 use sms_record::Coding;
 use std::alloc::Global;
 
-/// The body of a text in a charset, unless the text isn't right in that.
-pub(crate) fn body_of(
+/// The body of a text in a charset: its septets, one in each octet (GSM 03.38 6.2.1), its own octets, or its UCS-2. None where the text
+/// isn't right in that charset; of 8 bits each is.
+///
+/// # Errors
+/// `Memory`.
+pub fn body_of(
     alloc: Global,
     coding: Coding,
     charset: Charset,
     text: &[u8],
 ) -> Result<Option<Octets>, Memory>
-    ensures { IfOk result (λ body. body ≡ spec.body_of coding charset text.now) }
+    ensures body { IfOk result (λ body. body ≡ spec.body_of coding charset text.now) }
 {
     match (coding, charset) {
         (Coding::Eight, _) => Ok(Some(Octets::from_slice(alloc, text)?)),

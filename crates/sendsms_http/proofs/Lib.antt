@@ -2,8 +2,6 @@ pub mod Doings
 pub mod Endings
 pub mod Exchanges
 pub mod Falling
-pub mod FormLemmas
-pub mod Handing
 pub mod Looking
 pub mod SessionLemmas
 pub mod Wishes

@@ -26,7 +26,7 @@ use Rattle.sendsms_form.specs.declared.pairs.Pair.{Pair}
 use Rattle.sendsms_http.specs.declared.visit.Visit.{Visit}
 use Rattle.sendsms_http.specs.declared.visit.VisitWish.{VisitWish}
 use Rattle.sendsms_http.specs.declared.visit.VisitWish.TheVariants.{Say}
-use Rattle.sendsms_http.proofs.Handing.{handed_alone}
+use Rattle.gate_model.specs.Acceptor.{MayBeHanded}
 
 -- ---- users
 
@@ -123,15 +123,15 @@ owes_refused settings now len octets head visit answer heard kept refusal =
 -- a request whose parts are handed in
 pub asks : (settings : Settings) (now len : ℕ) (octets : List ℕ) (head : Head) (visit : Visit) (parts : List Sms) → IsHead (take len octets) head
     → visit.kept ≡ drop len octets → visit.phase ≡ Submitting (head.close || head.body) → asked settings head now ≡ Ok parts
-    → now < 2 ^ 37 → length parts ≡ 1 → All IsSms parts → Asks settings now octets visit now parts
-asks settings now len octets head visit parts heard kept phase is below one sound = record {
+    → MayBeHanded parts now → Asks settings now octets visit now parts
+asks settings now len octets head visit parts heard kept phase is fits = record {
   front = take len octets;
   head = head;
   heard = heard;
   cut = sym (take-append-drop len octets) ∙ ap (λ kept. take len octets ++ kept) (sym kept);
   read_at = refl;
   asks = is;
-  fits = handed_alone parts now below one sound;
+  fits = fits;
   phase = phase;
 }
 

@@ -9,7 +9,6 @@
 //! want of memory rose.
 #![tactic(auto)]
 
-mod form;
 mod http_end;
 mod reply;
 mod request;

@@ -1,19 +1,19 @@
 //! What a request asks for: the parts of a message, or the answer that refuses it.
 
-ghost use Rattle.std.specs.Prelude.{◌≡◌, ◌<◌, ◌≤◌, ◌^◌, ◌⊎◌, [], ◌∷◌, IfOk, IfErr, All, length};
+ghost use Rattle.std.specs.Prelude.{◌≡◌, ◌<◌, ◌^◌, ◌⊎◌, Some, Ok, Err, IfOk, IfErr, IfSome, All};
 ghost use Rattle.config_groups.specs.Ranges.{AreSettings, IsUser};
-ghost use Rattle.sms_record.specs.Record.{IsSms};
+ghost use Rattle.config_values.specs.Forms.{IsSender};
+ghost use Rattle.gate_model.specs.Acceptor.{MayBeHanded};
 ghost use Rattle.sendsms_form.specs.Pairs.{pairs};
 ghost use Rattle.sendsms_http.specs.Request as spec;
 
-use crate::form::read_form;
 use crate::target::{cut_target, is_path};
 use crate::users::user_of;
 use config_groups::{Settings, User};
 use http_text::{Answer, Head, Spot};
-use kn_base::{Items, Memory};
-use sendsms_form::{Pair, read_pairs};
-use sms_record::Sms;
+use sendsms_form::{Pair, read_form, read_pairs};
+use sendsms_parts::messages;
+use sms_record::{Address, Sms};
 use std::alloc::Global;
 
 /// The parts of the message that a request's head asks for, or the answer that refuses it, at the reading `now` of the clock
@@ -21,16 +21,16 @@ use std::alloc::Global;
 ///
 /// The first that is wrong is answered: `BadRequest(Head)` where the target doesn't begin with `/`; `BadRequest(Method)` where the method
 /// isn't GET; `BadRequest(Body)` where there is a body; `UnknownPath` where the path isn't `sendsms-url`; `Unauthorized` where
-/// no user has the name and the password of the query; `BadRequest(NotBuilt)` where its form isn't the five variables, once each and holding
-/// what they may. `OutOfMemory` may stand in the place of any answer.
+/// no user has the name and the password of the query; `BadRequest` with the first variable of the table that holds what it may not
+/// (docs/FORMATS.md, 'A request of sendsms'), or with `Text` where the text has no room in its parts. `OutOfMemory` may stand in the place of
+/// any answer.
 #[tactic(auto, unfolding(crate::specs::Request::asked))]
 pub fn asked(alloc: Global, settings: &Settings, head: &Head, now: u64) -> Result<Vec<Sms>, Answer>
     requires in_time { now < 2 ^ 37 }
     requires in_range { AreSettings settings.now }
     ensures parts { IfOk result (λ parts. spec.asked settings.now head.now now ≡ Ok parts.items) }
     ensures refusal { IfErr result (λ answer. (answer ≡ Answer.OutOfMemory) ⊎ (spec.asked settings.now head.now now ≡ Err answer)) }
-    ensures sound { IfOk result (λ parts. All IsSms parts.items) }
-    ensures one_part { IfOk result (λ parts. length parts.items ≡ 1) }
+    ensures handed { IfOk result (λ parts. MayBeHanded parts.items now) }
     ensures timed { IfOk result (λ parts. All (λ part. part.time ≡ now) parts.items) }
 {
     if !is_path(head.target.as_slice()) {
@@ -46,45 +46,41 @@ pub fn asked(alloc: Global, settings: &Settings, head: &Head, now: u64) -> Resul
     if path != settings.smsbox.sendsms_url.as_slice() {
         return Err(Answer::UnknownPath);
     }
-    asked_of(alloc, settings.users.as_slice(), query, now)
+    asked_of(alloc, settings, query, now)
 }
 
-// What a query asks of users.
-fn asked_of(alloc: Global, users: &[User], query: &[u8], now: u64) -> Result<Vec<Sms>, Answer>
+// What a query asks under these settings.
+fn asked_of(alloc: Global, settings: &Settings, query: &[u8], now: u64) -> Result<Vec<Sms>, Answer>
     requires in_time { now < 2 ^ 37 }
-    requires in_range { All IsUser users.now }
-    ensures parts { IfOk result (λ parts. spec.asked_of users.now now (pairs query.now) ≡ Ok parts.items) }
-    ensures refusal { IfErr result (λ answer. (answer ≡ Answer.OutOfMemory) ⊎ (spec.asked_of users.now now (pairs query.now) ≡ Err answer)) }
-    ensures sound { IfOk result (λ parts. All IsSms parts.items) }
-    ensures one_part { IfOk result (λ parts. length parts.items ≡ 1) }
+    requires in_range { AreSettings settings.now }
+    ensures parts { IfOk result (λ parts. spec.asked_of settings.now now (pairs query.now) ≡ Ok parts.items) }
+    ensures refusal { IfErr result (λ answer. (answer ≡ Answer.OutOfMemory) ⊎ (spec.asked_of settings.now now (pairs query.now) ≡ Err answer)) }
+    ensures handed { IfOk result (λ parts. MayBeHanded parts.items now) }
     ensures timed { IfOk result (λ parts. All (λ part. part.time ≡ now) parts.items) }
 {
     let pairs = read_pairs(alloc, query)?;
-    match user_of(users, pairs.as_slice()) {
-        Some(user) => asked_by(alloc, user, pairs.as_slice(), now),
+    match user_of(settings.users.as_slice(), pairs.as_slice()) {
+        Some(user) => asked_by(alloc, user, &settings.smsbox.global_sender, pairs.as_slice(), now),
         None => Err(Answer::Unauthorized),
     }
 }
 
 // What a form asks as a user's.
-fn asked_by(alloc: Global, user: &User, pairs: &[Pair], now: u64) -> Result<Vec<Sms>, Answer>
+fn asked_by(
+    alloc: Global,
+    user: &User,
+    common: &Option<Address>,
+    pairs: &[Pair],
+    now: u64,
+) -> Result<Vec<Sms>, Answer>
     requires in_time { now < 2 ^ 37 }
-    requires short_name { length user.now.name ≤ 64 }
-    ensures parts { IfOk result (λ parts. spec.asked_by (Some user.now) now pairs.now ≡ Ok parts.items) }
-    ensures refusal { IfErr result (λ answer. (answer ≡ Answer.OutOfMemory) ⊎ (spec.asked_by (Some user.now) now pairs.now ≡ Err answer)) }
-    ensures sound { IfOk result (λ parts. All IsSms parts.items) }
-    ensures one_part { IfOk result (λ parts. length parts.items ≡ 1) }
+    requires user { IsUser user.now }
+    requires common { IfSome common.now IsSender }
+    ensures parts { IfOk result (λ parts. spec.asked_by (Some user.now) common.now now pairs.now ≡ Ok parts.items) }
+    ensures refusal { IfErr result (λ answer. (answer ≡ Answer.OutOfMemory) ⊎ (spec.asked_by (Some user.now) common.now now pairs.now ≡ Err answer)) }
+    ensures handed { IfOk result (λ parts. MayBeHanded parts.items now) }
     ensures timed { IfOk result (λ parts. All (λ part. part.time ≡ now) parts.items) }
 {
-    let form = read_form(alloc, pairs)?;
-    Ok(alone(alloc, form.message(alloc, user, now)?)?)
-}
-
-// A list of one message.
-fn alone(alloc: Global, message: Sms) -> Result<Vec<Sms>, Memory>
-    ensures { IfOk result (λ parts. parts.items ≡ message ∷ []) }
-{
-    let mut parts = Items::new(alloc);
-    parts.push(message)?;
-    Ok(parts.into_vec())
+    let form = read_form(alloc, user, common, pairs)?;
+    messages(alloc, user, form, now)
 }

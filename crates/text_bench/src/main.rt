@@ -46,6 +46,9 @@ fn limits(alloc: Global) -> Limits
 /// The octets of the packed parts of a text, or nothing where it can't be split or memory is wanting.
 fn packed_len(alloc: Global, text: &[u8]) -> Option<usize> {
     let limits = limits(alloc);
+    if !are_septets(text) {
+        return None;
+    }
     let mut len = 0_usize;
     for part in &split(alloc, text, Coding::Seven, 0, &limits).ok()? {
         if are_septets(part.body.as_slice()) {

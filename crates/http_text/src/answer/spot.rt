@@ -25,8 +25,6 @@ pub enum Spot {
     DlrUrl,
     Account,
     Text,
-    /// The request asks for something that the gateway doesn't serve yet.
-    NotBuilt,
 }
 
 impl Spot {
@@ -52,7 +50,6 @@ impl Spot {
             Spot::DlrUrl => b"dlr-url",
             Spot::Account => b"account",
             Spot::Text => b"text",
-            Spot::NotBuilt => b"not built",
         }
     }
 }

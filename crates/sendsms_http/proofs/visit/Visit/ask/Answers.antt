@@ -12,7 +12,7 @@ pub returns-in-Ok-clause-looks : goal.returns-in-Ok-clause-looks
 returns-in-Ok-clause-looks c =
     asks c.args.settings.now c.args.now c.args.len c.args.self.now.kept c.args.head.now _ c.in-Ok.parts.items
     (whole_head c.args.self.now.kept c.args.head.now c.args.len c.requires.whole).0 (ap (λ (v : Visit). v.kept) c.drop_front.ensures)
-    (ap Submitting c.is_last-close.ensures) c.in-Ok.ensures.parts c.requires.in_time c.in-Ok.ensures.one_part c.in-Ok.ensures.sound
+    (ap Submitting c.is_last-close.ensures) c.in-Ok.ensures.parts c.in-Ok.ensures.handed
 
 pub returns-in-Err-clause-looks : goal.returns-in-Err-clause-looks
 returns-in-Err-clause-looks c =
