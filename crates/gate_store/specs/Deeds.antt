@@ -1,16 +1,20 @@
 -- What the deeds of a session do to a store.
-use Rattle.std.specs.Prelude.{◌≡◌, ℕ, ◌+◌, ◌<◌, ◌≤◌, Bool, true, false, List, [], ◌∷◌, ◌++◌, Result, Ok, Err, is_ok, length, min, if◌then◌else◌}
+use Rattle.std.specs.Prelude.{◌≡◌, ℕ, ◌<◌, ◌≤◌, Bool, true, false, List, [], ◌∷◌, ◌++◌, ⊤, Option, Some, None, Result, Ok, Err, is_ok, length, if◌then◌else◌}
 use Rattle.std.proofs.Common.{subst}
-use Rattle.kn_base.specs.Count.{Rose, last_count}
+use Rattle.kn_base.specs.Count.{Rose}
+use Rattle.gate_entries.specs.declared.recorded.Recorded.{Recorded}
+use Rattle.gate_entries.specs.declared.recorded.Recorded.TheVariants as entry
 use Rattle.gate_model.specs.Acceptor.{Deed}
+use Rattle.gate_model.specs.Fold.{does, recorded}
+use Rattle.gate_model.specs.Lawful.{refusal}
+use Rattle.gate_model.specs.Replies.{reply_to}
+use Rattle.gate_model.specs.State.{State}
 use Rattle.gate_model.specs.declared.reply.Refusal.{Refusal}
 use Rattle.gate_model.specs.declared.reply.Refusal.TheVariants.{NoRoute, Full, Disk, Memory}
 use Rattle.gate_model.specs.declared.reply.Reply.{Reply}
-use Rattle.gate_model.specs.declared.reply.Reply.TheVariants.{Accepted}
+use Rattle.route_rules.specs.declared.rules.Rules.{Rules}
 use Rattle.store_disk.specs.Disk.{Areas}
-use Rattle.sms_record.specs.declared.entry.accept.Accept.{Accept}
-use Rattle.gate_store.specs.Accepts.{messages}
-use Rattle.gate_store.specs.Store.{IsStore, disk_in, waiting_in, limit_in, is_store_broken}
+use Rattle.gate_store.specs.Store.{IsStore, disk_in, rules_in, state_in, is_store_broken}
 use Rattle.gate_store.specs.declared.store.Store.{Store}
 
 -- the disk failed
@@ -25,30 +29,37 @@ abbrev pub is_by_disk : {T : Type 0} → Result T Refusal → Bool
 is_by_disk (Ok x) = false
 is_by_disk (Err refusal) = is_disk refusal
 
--- What an outcome says of a queue in which so many messages may wait and so many do, and to which so many were handed in. There is
--- room for them: the outcome is the number of the first, for no link is up; or the disk failed, or memory was wanting. Or there is
--- none.
-abbrev pub IsReason : (limit waiting count : ℕ) → Result Reply Refusal → Type 0
-IsReason limit waiting count (Ok reply) = (waiting + count ≤ limit) × (reply ≡ Accepted (waiting + 1) count true)
-IsReason limit waiting count (Err (NoRoute part)) = ⊥
-IsReason limit waiting count (Err (Full held most)) = (limit < waiting + count) × (held ≡ waiting) × (most ≡ limit)
-IsReason limit waiting count (Err Disk) = waiting + count ≤ limit
-IsReason limit waiting count (Err Memory) = waiting + count ≤ limit
+-- What an outcome says of an entry that was handed to a store under rules, in a state. It isn't refused, and the reply is the model's;
+-- or the disk failed, or memory was wanting. Or there is no route, or no room.
+abbrev pub IsReason : Rules → State → Recorded → Result Reply Refusal → Type 0
+IsReason rules state kept (Ok reply) = (refusal rules state kept ≡ None) × (reply ≡ reply_to rules state kept)
+IsReason rules state kept (Err (NoRoute part)) = refusal rules state kept ≡ Some (NoRoute part)
+IsReason rules state kept (Err (Full held limit)) = refusal rules state kept ≡ Some (Full held limit)
+IsReason rules state kept (Err Disk) = refusal rules state kept ≡ None
+IsReason rules state kept (Err Memory) = refusal rules state kept ≡ None
+
+-- the entry that a deed asks for
+abbrev pub entry_of : Deed → Recorded
+entry_of deed = entry.Accept (record { time = deed.time; parts = deed.parts })
 
 -- the entries that a deed puts behind others
-abbrev pub entries_of : Deed → List Accept
-entries_of deed = if is_ok deed.outcome then record { time = deed.time; parts = deed.parts } ∷ [] else []
+abbrev pub entries_of : Deed → List Recorded
+entries_of deed = if is_ok deed.outcome then entry_of deed ∷ [] else []
 
 -- the entries of the deeds that were done, in their order
-abbrev pub done_of : List Deed → List Accept
+abbrev pub done_of : List Deed → List Recorded
 done_of [] = []
 done_of (deed ∷ deeds) = entries_of deed ++ done_of deeds
 
--- each outcome has its reason in the entries that were held before it, where so many messages may wait
-abbrev pub AreReasoned : (limit : ℕ) → List Accept → List Deed → Type 0
-AreReasoned limit accepts [] = Unit {0}
-AreReasoned limit accepts (deed ∷ deeds) =
-    IsReason limit (min (messages accepts) last_count) (length deed.parts) deed.outcome × AreReasoned limit (accepts ++ entries_of deed) deeds
+-- what an entry does, where its outcome is a reply
+abbrev pub state_behind : State → Recorded → Result Reply Refusal → State
+state_behind state kept outcome = if is_ok outcome then does state (recorded kept) else state
+
+-- each outcome has its reason in the state before it
+abbrev pub AreReasoned : Rules → State → List Deed → Type 0
+AreReasoned rules state [] = ⊤
+AreReasoned rules state (deed ∷ deeds) =
+    IsReason rules state (entry_of deed) deed.outcome × AreReasoned rules (state_behind state (entry_of deed) deed.outcome) deeds
 
 -- where the disk failed, its count of faults rose, and else it stands still
 abbrev pub CountsFault : Bool → ℕ → ℕ → Type 0
@@ -56,16 +67,22 @@ CountsFault true before now = Rose before now × (before ≤ now)
 CountsFault false before now = now ≡ before
 
 module _ {D : Type 0} (tells : Bool) (contents : D → Areas) (faults : D → ℕ) where
-  -- One deed on a store that isn't broken. Unless the disk failed, which breaks it, the store gains the entry of a deed that was
-  -- done, and else keeps what it holds.
-  pub record Does (old : Store D) (deed : Deed) (new : Store D) : Type 0 where
+  -- One entry on a store that isn't broken. Where it was done its state is what the entry makes of it, and else it is as it was. Unless the
+  -- disk failed, which breaks it, the store gains an entry that was done, and else keeps what it holds.
+  pub record Performs (old : Store D) (kept : Recorded) (outcome : Result Reply Refusal) (new : Store D) : Type 0 where
     pub whole : is_store_broken old ≡ false
-    pub reason : IsReason (limit_in old) (waiting_in old) (length deed.parts) deed.outcome
-    pub limit : limit_in new ≡ limit_in old
-    pub gains : is_by_disk deed.outcome ≡ false
-        → (birth : ℕ) (accepts : List Accept) → IsStore tells contents old birth accepts → IsStore tells contents new birth (accepts ++ entries_of deed)
-    pub broken : is_store_broken new ≡ is_by_disk deed.outcome
-    pub counted : CountsFault (is_by_disk deed.outcome) (faults (disk_in old)) (faults (disk_in new))
+    pub reason : IsReason (rules_in old) (state_in old) kept outcome
+    pub ruled : rules_in new ≡ rules_in old
+    pub state : state_in new ≡ state_behind (state_in old) kept outcome
+    pub gains : is_by_disk outcome ≡ false
+        → (birth : ℕ) (entries : List Recorded) → IsStore tells contents old birth entries
+        → IsStore tells contents new birth (if is_ok outcome then entries ++ kept ∷ [] else entries)
+    pub broken : is_store_broken new ≡ is_by_disk outcome
+    pub counted : CountsFault (is_by_disk outcome) (faults (disk_in old)) (faults (disk_in new))
+
+  -- one deed
+  abbrev pub Does : Store D → Deed → Store D → Type 0
+  Does old deed new = Performs old (entry_of deed) deed.outcome new
 
   -- the deeds lead from what the store was to what it is, one after the other
   abbrev pub Leads : Store D → List Deed → Store D → Type 0

@@ -1,5 +1,4 @@
-pub mod Accepts
 pub mod Deeds
+pub mod Entries
 pub mod Store
 pub mod StoreSteps
-pub mod Totals

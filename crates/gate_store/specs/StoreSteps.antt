@@ -1,44 +1,50 @@
--- The steps of a store: loading it, and appending an entry. No public clause cites these.
-use Rattle.std.specs.Prelude.{◌≡◌, ℕ, Bool, List, All, Option, Some, None, length}
+-- The steps of a store: loading it, and recording an entry. No public clause cites these.
+use Rattle.std.specs.Prelude.{◌≡◌, ℕ, ◌≤◌, Bool, List, length}
 use Rattle.std.specs.Bool.{OnTrue}
+use Rattle.gate_entries.specs.declared.recorded.Recorded.{Recorded}
+use Rattle.gate_entries.specs.Entry.{entry_octets}
+use Rattle.gate_model.specs.Loading.{ComesNext}
 use Rattle.gate_model.specs.declared.reply.Refusal.{Refusal}
 use Rattle.gate_model.specs.declared.reply.Refusal.TheVariants as refusal_is
+use Rattle.route_rules.specs.declared.rules.Rules.{Rules}
 use Rattle.store_journal.specs.Area.{stands, born}
 use Rattle.store_disk.specs.Disk.{Areas}
 use Rattle.store_journal.specs.Journal.{HoldsSame, disk_of, birth_of, left}
 use Rattle.store_disk.specs.declared.area.Area.{Area}
 use Rattle.store_journal.specs.declared.journal.Journal.{Journal}
-use Rattle.sms_record.specs.declared.entry.accept.Accept.{Accept}
-use Rattle.sms_record.specs.Entry.{IsAccept, accept_octets}
-use Rattle.gate_store.specs.Accepts.{entries}
-use Rattle.gate_store.specs.Store.{IsStore, disk_in, limit_in}
+use Rattle.gate_store.specs.Entries.{payloads, start, AreInTurn}
+use Rattle.gate_store.specs.Store.{IsStore, disk_in, rules_in, state_in}
 use Rattle.gate_store.specs.declared.store.Store.{Store}
 use Rattle.gate_store.specs.declared.store_fault.StoreFault.{StoreFault}
 use Rattle.gate_store.specs.declared.store_fault.StoreFault.TheVariants.{Foreign, Disk, Memory}
 
--- how many messages a payload has, where it is an entry
-abbrev pub CountsIn : List ℕ → Option ℕ → Type 0
-CountsIn payload None = (accept : Accept) → IsAccept accept → payload ≡ accept_octets accept → ⊥
-CountsIn payload (Some count) = (accept : Accept) × IsAccept accept × (payload ≡ accept_octets accept) × (count ≡ length accept.parts)
+-- the most octets of a payload
+abbrev pub most_payload : ℕ
+most_payload = 16777216
+
+-- an entry that a store may record in a state: one that may come next, and that a journal can hold
+pub record MayRecord {D : Type 0} (store : Store D) (kept : Recorded) : Type 0 where
+  pub next : ComesNext (state_in store) (entry_octets kept) kept
+  pub small : length (entry_octets kept) ≤ most_payload
 
 module _ {D : Type 0} (tells : Bool) (contents : D → Areas) where
-  -- What was left of a journal to hand out is the entries that the store holds, on the same disk; so many messages may wait.
-  pub record Loads (limit : ℕ) (journal : Journal D) (store : Store D) : Type 0 where
-    pub accepts : List Accept
-    pub limited : limit_in store ≡ limit
-    pub handed : left journal ≡ entries accepts
-    pub holds : IsStore tells contents store (birth_of journal) accepts
+  -- What was left of a journal to hand out is the entries that the store holds, on the same disk, under these rules.
+  pub record Loads (rules : Rules) (journal : Journal D) (store : Store D) : Type 0 where
+    pub entries : List Recorded
+    pub ruled : rules_in store ≡ rules
+    pub handed : left journal ≡ payloads entries
+    pub holds : IsStore tells contents store (birth_of journal) entries
     pub disk : disk_in store ≡ disk_of journal
 
-  -- why what is left of a journal isn't loaded: a payload is no entry, or memory was wanting
-  abbrev pub IsNotLoaded : Journal D → StoreFault → Type 0
-  IsNotLoaded journal Foreign = (accepts : List Accept) → All IsAccept accepts → left journal ≡ entries accepts → ⊥
-  IsNotLoaded journal Disk = ⊥
-  IsNotLoaded journal Memory = Unit {0}
+  -- why what is left of a journal isn't loaded: its payloads are no entries of which each may come next, or memory was wanting
+  abbrev pub IsNotLoaded : Rules → Journal D → StoreFault → Type 0
+  IsNotLoaded rules journal Foreign = (entries : List Recorded) → AreInTurn (start rules) entries → left journal ≡ payloads entries → ⊥
+  IsNotLoaded rules journal Disk = ⊥
+  IsNotLoaded rules journal Memory = Unit {0}
 
   -- Nothing was loaded, and the journal's disk stands for what it stood for.
-  pub record LoadsNone (journal : Journal D) (disk : D) (fault : StoreFault) : Type 0 where
-    pub cause : IsNotLoaded journal fault
+  pub record LoadsNone (rules : Rules) (journal : Journal D) (disk : D) (fault : StoreFault) : Type 0 where
+    pub cause : IsNotLoaded rules journal fault
     pub same : disk ≡ disk_of journal
     pub stood : OnTrue tells ((area : Area) × (stands (contents disk) ≡ born (birth_of journal) area (left journal)))
 
