@@ -89,7 +89,7 @@ pub fn put_message(alloc: Global, text: &[u8], report: &mut Octets) -> Result<()
 /// Puts messages last, a line each.
 fn put_messages(report: &mut Octets, parts: &[Sms]) -> Result<(), Memory> {
     for part in parts {
-        put_sms(report, b"\n        ", part)?;
+        put_sms(report, b"\n        from", part)?;
     }
     Ok(())
 }
