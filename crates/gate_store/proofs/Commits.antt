@@ -1,18 +1,19 @@
 -- What deeds that lead from one store to another did, all together.
-use Rattle.std.proofs.Common.{◌≡◌, ℕ, Bool, true, false, List, [], ◌∷◌, ◌++◌, length, min, All, Result, Ok, Err, refl, ap, sym, ◌∙◌, append_assoc, subst}
+use Rattle.std.proofs.Common.{◌≡◌, ℕ, Bool, true, false, List, [], ◌∷◌, ◌++◌, All, Result, Ok, Err, refl, ap, sym, ◌∙◌, append_assoc, subst}
 use Rattle.std.proofs.lemmas.Bool.{false≢true}
 use Rattle.std.proofs.lemmas.List.{append-nil}
 use Rattle.std.proofs.lemmas.List.Elements.{All-nil, All-cons, All-head, All-tail}
-use Rattle.kn_base.specs.Count.{Rose, last_count}
+use Rattle.kn_base.specs.Count.{Rose}
 use Rattle.gate_model.specs.Acceptor.{Deed, IsSpared}
 use Rattle.gate_model.specs.declared.reply.Refusal.{Refusal}
 use Rattle.gate_model.specs.declared.reply.Refusal.TheVariants.{NoRoute, Full, Disk, Memory}
 use Rattle.gate_model.specs.declared.reply.Reply.{Reply}
 use Rattle.store_disk.specs.Disk.{Areas}
-use Rattle.sms_record.specs.declared.entry.accept.Accept.{Accept}
-use Rattle.gate_store.specs.Accepts.{messages}
-use Rattle.gate_store.specs.Deeds.{Does, Leads, IsReason, AreReasoned, CountsFault, is_by_disk, entries_of, done_of}
-use Rattle.gate_store.specs.Store.{IsStore, disk_in, limit_in, is_store_broken}
+use Rattle.gate_entries.specs.declared.recorded.Recorded.{Recorded}
+use Rattle.gate_model.specs.State.{State}
+use Rattle.route_rules.specs.declared.rules.Rules.{Rules}
+use Rattle.gate_store.specs.Deeds.{Does, Leads, IsReason, AreReasoned, CountsFault, is_by_disk, entry_of, entries_of, state_behind, done_of}
+use Rattle.gate_store.specs.Store.{IsStore, disk_in, rules_in, state_in, is_store_broken}
 use Rattle.gate_store.specs.declared.store.Store.{Store}
 
 -- an outcome by the disk is its refusal
@@ -52,15 +53,13 @@ module _ {D : Type 0} (tells : Bool) (contents : D → Areas) (faults : D → �
   none_broken a c (deed ∷ deeds) leads broken = absurd (false≢true (sym leads.1.whole ∙ broken))
 
   -- each outcome has its reason
-  pub reasoned : (limit : ℕ) (a c : Store D) (deeds : List Deed) → Leads tells contents faults a deeds c → limit_in a ≡ limit
-      → (birth : ℕ) (accepts : List Accept) → IsStore tells contents a birth accepts → AreReasoned limit accepts deeds
-  reasoned limit a c [] leads is_limit birth accepts is = tt
-  reasoned limit a c (deed ∷ deeds) leads is_limit birth accepts is = (
-    subst (λ m. IsReason m (min (messages accepts) last_count) (length deed.parts) deed.outcome) is_limit
-        (subst (λ n. IsReason (limit_in a) n (length deed.parts) deed.outcome) is.waiting leads.1.reason),
-    by_outcome (is_by_disk deed.outcome)
-        (λ is_disk. subst (λ ds. AreReasoned limit (accepts ++ entries_of deed) ds) (sym (none_broken leads.0 c deeds leads.2 (leads.1.broken ∙ is_disk)).0) tt)
-        (λ is_spared. reasoned limit leads.0 c deeds leads.2 (leads.1.limit ∙ is_limit) birth (accepts ++ entries_of deed) (leads.1.gains is_spared birth accepts is)),
+  pub reasoned : (rules : Rules) (state : State) (a c : Store D) (deeds : List Deed) → Leads tells contents faults a deeds c → rules_in a ≡ rules → state_in a ≡ state
+      → AreReasoned rules state deeds
+  reasoned rules state a c [] leads ruled holds = tt
+  reasoned rules state a c (deed ∷ deeds) leads ruled holds = (
+    subst (λ r. IsReason r state (entry_of deed) deed.outcome) ruled (subst (λ s. IsReason (rules_in a) s (entry_of deed) deed.outcome) holds leads.1.reason),
+    reasoned rules (state_behind state (entry_of deed) deed.outcome) leads.0 c deeds leads.2 (leads.1.ruled ∙ ruled)
+        (leads.1.state ∙ ap (λ s. state_behind s (entry_of deed) deed.outcome) holds),
   )
 
   -- where the store isn't broken behind the deeds, none was refused by the disk
@@ -83,13 +82,13 @@ module _ {D : Type 0} (tells : Bool) (contents : D → Areas) (faults : D → �
 
   -- and it holds the entries of those that were done behind those that it held
   pub gained : (a c : Store D) (deeds : List Deed) → Leads tells contents faults a deeds c → is_store_broken c ≡ false
-      → (birth : ℕ) (accepts : List Accept) → IsStore tells contents a birth accepts → IsStore tells contents c birth (accepts ++ done_of deeds)
-  gained a c [] leads whole birth accepts is =
-      subst (λ x. IsStore tells contents c birth x) (sym (append-nil accepts)) (subst (λ s. IsStore tells contents s birth accepts) (sym leads) is)
-  gained a c (deed ∷ deeds) leads whole birth accepts is =
-      subst (λ x. IsStore tells contents c birth x) (append_assoc accepts (entries_of deed) (done_of deeds))
-      (gained leads.0 c deeds leads.2 whole birth (accepts ++ entries_of deed)
-      (leads.1.gains (spared_first a leads.0 c deed deeds leads.1 leads.2 whole) birth accepts is))
+      → (birth : ℕ) (entries : List Recorded) → IsStore tells contents a birth entries → IsStore tells contents c birth (entries ++ done_of deeds)
+  gained a c [] leads whole birth entries is =
+      subst (λ x. IsStore tells contents c birth x) (sym (append-nil entries)) (subst (λ s. IsStore tells contents s birth entries) (sym leads) is)
+  gained a c (deed ∷ deeds) leads whole birth entries is =
+      subst (λ x. IsStore tells contents c birth x) (append_assoc entries (entries_of deed) (done_of deeds))
+      (gained leads.0 c deeds leads.2 whole birth (entries ++ entries_of deed)
+      (leads.1.gains (spared_first a leads.0 c deed deeds leads.1 leads.2 whole) birth entries is))
 
   -- where the store broke, one was refused by the disk, which counted it
   pub broke : (a c : Store D) (deeds : List Deed) → Leads tells contents faults a deeds c → is_store_broken a ≡ false → is_store_broken c ≡ true

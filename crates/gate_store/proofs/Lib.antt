@@ -1,4 +1,6 @@
-pub mod Accepting
 pub mod Commits
 pub mod Loading
 pub mod Opening
+pub mod Recording
+pub mod Refusals
+pub mod Turns

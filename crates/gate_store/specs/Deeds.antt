@@ -42,9 +42,13 @@ IsReason rules state kept (Err Memory) = refusal rules state kept ≡ None
 abbrev pub entry_of : Deed → Recorded
 entry_of deed = entry.Accept (record { time = deed.time; parts = deed.parts })
 
--- the entries that a deed puts behind others
+-- what an outcome puts behind other entries
+abbrev pub put_behind : Recorded → Result Reply Refusal → List Recorded
+put_behind kept outcome = if is_ok outcome then kept ∷ [] else []
+
+-- the same of a deed
 abbrev pub entries_of : Deed → List Recorded
-entries_of deed = if is_ok deed.outcome then entry_of deed ∷ [] else []
+entries_of deed = put_behind (entry_of deed) deed.outcome
 
 -- the entries of the deeds that were done, in their order
 abbrev pub done_of : List Deed → List Recorded
@@ -76,7 +80,7 @@ module _ {D : Type 0} (tells : Bool) (contents : D → Areas) (faults : D → �
     pub state : state_in new ≡ state_behind (state_in old) kept outcome
     pub gains : is_by_disk outcome ≡ false
         → (birth : ℕ) (entries : List Recorded) → IsStore tells contents old birth entries
-        → IsStore tells contents new birth (if is_ok outcome then entries ++ kept ∷ [] else entries)
+        → IsStore tells contents new birth (entries ++ put_behind kept outcome)
     pub broken : is_store_broken new ≡ is_by_disk outcome
     pub counted : CountsFault (is_by_disk outcome) (faults (disk_in old)) (faults (disk_in new))
 

@@ -1,9 +1,10 @@
 -- The steps of a store: loading it, and recording an entry. No public clause cites these.
-use Rattle.std.specs.Prelude.{◌≡◌, ℕ, ◌≤◌, Bool, List, length}
+use Rattle.std.specs.Prelude.{◌≡◌, ℕ, ◌≤◌, Bool, IsTrue, List, length}
 use Rattle.std.specs.Bool.{OnTrue}
 use Rattle.gate_entries.specs.declared.recorded.Recorded.{Recorded}
 use Rattle.gate_entries.specs.Entry.{entry_octets}
-use Rattle.gate_model.specs.Loading.{ComesNext}
+use Rattle.gate_model.specs.Lawful.{IsSound}
+use Rattle.gate_model.specs.Loading.{is_served}
 use Rattle.gate_model.specs.declared.reply.Refusal.{Refusal}
 use Rattle.gate_model.specs.declared.reply.Refusal.TheVariants as refusal_is
 use Rattle.route_rules.specs.declared.rules.Rules.{Rules}
@@ -22,9 +23,10 @@ use Rattle.gate_store.specs.declared.store_fault.StoreFault.TheVariants.{Foreign
 abbrev pub most_payload : ℕ
 most_payload = 16777216
 
--- an entry that a store may record in a state: one that may come next, and that a journal can hold
+-- an entry that a store may record: of a kind that it keeps as yet, sound in its state, and of a size that a journal can hold
 pub record MayRecord {D : Type 0} (store : Store D) (kept : Recorded) : Type 0 where
-  pub next : ComesNext (state_in store) (entry_octets kept) kept
+  pub served : IsTrue (is_served kept)
+  pub sound : IsSound (state_in store) kept
   pub small : length (entry_octets kept) ≤ most_payload
 
 module _ {D : Type 0} (tells : Bool) (contents : D → Areas) where

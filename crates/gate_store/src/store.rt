@@ -1,51 +1,54 @@
-//! The store that keeps messages: entries in a journal, and how many messages wait.
+//! The store that keeps messages: entries in a journal, and the gate that they make.
 
-ghost use Rattle.std.specs.Prelude.{◌≡◌, ◌∷◌, [], List, ℕ, IfOk, IfErr, OnOk};
+ghost use Rattle.std.specs.Prelude.{◌≡◌, ◌<◌, ◌^◌, ◌∷◌, [], List, ℕ, None, IfOk, IfErr, OnOk, OnErr, length};
 ghost use Rattle.std.specs.Bool.{OnTrue};
-ghost use Rattle.sms_record.specs.Entry.{accept_octets};
+ghost use Rattle.gate_entries.specs.Entry.{IsEntry, entry_octets};
+ghost use Rattle.gate_entries.specs.declared.recorded.Recorded.{Recorded};
 ghost use Rattle.gate_model.specs.Acceptor.{MayBeHanded};
+ghost use Rattle.gate_model.specs.Gate.{entry_of as prepared, HasRoom, KeepsAll};
+ghost use Rattle.gate_model.specs.Lawful.{refusal};
+ghost use Rattle.gate_model.specs.State.{totals_of};
 ghost use Rattle.store_journal.specs.Area.{stands};
 ghost use Rattle.store_journal.specs.Journal.{IsKept, HoldsMore, IsHandedOut};
-ghost use Rattle.sms_record.specs.declared.entry.accept.Accept.{Accept};
-ghost use Rattle.gate_store.specs.Accepts.{StandsFor};
-ghost use Rattle.gate_store.specs.Deeds.{Does, CountsFault, is_by_disk};
-ghost use Rattle.gate_store.specs.Store.{IsStore, IsOpen, IsOpened, IsUnopened, disk_in, is_store_broken};
-ghost use Rattle.gate_store.specs.StoreSteps.{RefusesAppend};
-ghost use Rattle.gate_store.specs.Totals.{totals_of};
+ghost use Rattle.gate_store.specs.Entries.{StandsFor, state_of};
+ghost use Rattle.gate_store.specs.Deeds.{Performs, CountsFault, is_by_disk};
+ghost use Rattle.gate_store.specs.Store.{IsStore, IsOpen, IsOpened, IsUnopened, disk_in, rules_in, state_in, is_store_broken};
+ghost use Rattle.gate_store.specs.StoreSteps.{MayRecord, RefusesAppend, most_payload};
 
 mod entries;
 
 use crate::StoreFault;
 use entries::load;
-use gate_model::{Acceptor, Refusal, Reply, Totals};
-use kn_base::{Items, Memory, Octets, raised};
+use gate_entries::{Accept, Recorded, write_entry};
+use gate_model::{Acceptor, Gate, Ready, Refusal, Reply, Totals};
+use kn_base::{Items, Memory, Octets};
+use route_rules::Rules;
 use sms_record::Sms;
-use sms_record::entry::{Accept, write_accept};
 use std::alloc::Global;
 use store_disk::{Disk, DiskFailed};
 use store_journal::{Journal, OpenFault};
 
-/// Messages on a disk. None has ended yet, so all of them wait.
+/// Messages on a disk, and what became of them.
 pub struct Store<D: Disk> {
     alloc: Global,
     journal: Journal<D>,
-    /// How many messages may wait.
-    limit: u64,
-    waiting: u64,
-    entries: u64,
+    /// What the entries of the journal make.
+    gate: Gate,
 }
 
 impl<D: Disk> Store<D> {
-    /// Opens the store on a disk, and where the disk holds none yet, makes it with that birth. `limit` messages may wait in it.
+    /// Opens the store on a disk, and where the disk holds none yet, makes it with that birth. `rules` say which links carry a message, and
+    /// how many messages may wait in it.
     ///
     /// `Foreign` where what the disk holds is no store, `Disk` exactly where a disk call failed, `Memory` where there was none. Each
     /// fault gives the disk back; unless it is `Disk`, nothing that was stored is lost.
-    pub fn open(alloc: Global, disk: D, limit: u64, birth: u64) -> Result<Store<D>, (D, StoreFault)>
-        ensures ok { IfOk result (IsOpened D.tells D.contents D.faults (D.contents disk) (D.faults disk) limit birth) }
-        ensures err { IfErr result (λ fault. IsUnopened D.tells D.contents D.faults (D.contents disk) (D.faults disk) birth fault.0 fault.1) }
+    pub fn open(alloc: Global, disk: D, rules: Rules, birth: u64) -> Result<Store<D>, (D, StoreFault)>
+        requires few_links { length rules.links < 2 ^ 32 }
+        ensures ok { IfOk result (IsOpened D.tells D.contents D.faults (D.contents disk) (D.faults disk) rules birth) }
+        ensures err { IfErr result (λ fault. IsUnopened D.tells D.contents D.faults (D.contents disk) (D.faults disk) rules birth fault.0 fault.1) }
     {
         match Journal::open(alloc, disk, birth) {
-            Ok(journal) => load(alloc, limit, journal),
+            Ok(journal) => load(alloc, rules, journal),
             Err((disk, OpenFault::Foreign { .. })) => Err((disk, StoreFault::Foreign)),
             Err((disk, OpenFault::Disk)) => Err((disk, StoreFault::Disk)),
             Err((disk, OpenFault::Memory)) => Err((disk, StoreFault::Memory)),
@@ -61,68 +64,69 @@ impl<D: Disk> Store<D> {
 
     /// What it counts: of its entries, and of their messages.
     pub fn totals(&self) -> Totals
-        ensures { (birth : ℕ) (accepts : List Accept) → IsStore D.tells D.contents self.now birth accepts → result ≡ totals_of accepts }
+        ensures { result ≡ totals_of (state_in self.now) }
     {
-        Totals {
-            accepted: self.waiting,
-            acked: 0,
-            rejected: 0,
-            waiting: self.waiting,
-            awaited: 0,
-            unmatched: 0,
-            jobs: 0,
-            called: 0,
-            dropped: 0,
-            arrived: 0,
-            arrivals: 0,
-            entries: self.entries,
-        }
+        self.gate.totals()
     }
 
-    /// Records messages that were taken at one time as one entry on the disk.
+    /// Records an entry on the disk, and does it.
     ///
-    /// `Full` where the messages that wait and these are more than may wait, `Disk` where a disk call failed, which breaks the
-    /// store, `Memory` where there was none. Only an entry that was accepted is kept, but for `Disk`, where that isn't known.
-    pub fn accept(&mut self, accept: &Accept) -> Result<Reply, Refusal>
+    /// `NoRoute` and `Full` exactly where the model refuses it so, in this order; `Memory` where there was none; `Disk` where a disk call
+    /// failed, which breaks the store. Only an entry that was done is kept, but for `Disk`, where that isn't known.
+    pub fn perform(&mut self, entry: Recorded) -> Result<Reply, Refusal>
         requires kept { IsOpen D.tells D.contents self.old }
-        requires fits { MayBeHanded accept.now.parts accept.now.time }
-        ensures { Does D.tells D.contents D.faults self.old (record { parts = accept.now.parts; time = accept.now.time; outcome = result }) self.new }
+        requires may { MayRecord self.old entry }
+        ensures { Performs D.tells D.contents D.faults self.old entry result self.new }
     {
-        let held = self.waiting;
-        let count = accept.parts.len() as u32;
-        if u64::from(count) > self.limit.saturating_sub(held) {
-            return Err(Refusal::Full {
-                held,
-                limit: self.limit,
-            });
+        match self.gate.check(&entry) {
+            Ok(()) => self.record(entry),
+            Err(refusal) => Err(refusal),
         }
-        self.append_entry(accept)?;
-        self.waiting = held + u64::from(count);
-        self.entries = raised(self.entries);
-        Ok(Reply::Accepted {
-            first: held + 1,
-            count,
-            queued: true,
-        })
     }
 
-    /// Puts an entry last in the journal.
-    fn append_entry(&mut self, accept: &Accept) -> Result<(), Refusal>
+    // Records an entry that isn't refused.
+    fn record(&mut self, entry: Recorded) -> Result<Reply, Refusal>
+        requires kept { IsOpen D.tells D.contents self.old }
+        requires may { MayRecord self.old entry }
+        requires taken { refusal (rules_in self.old) (state_in self.old) entry ≡ None }
+        ensures { Performs D.tells D.contents D.faults self.old entry result self.new }
+    {
+        match self.gate.prepare(entry, self.journal.birth()) {
+            Ok(ready) => self.commit(ready),
+            Err((_, Memory)) => Err(Refusal::Memory),
+        }
+    }
+
+    // Puts an entry last in the journal, and does it.
+    fn commit(&mut self, ready: Ready) -> Result<Reply, Refusal>
+        requires kept { IsOpen D.tells D.contents self.old }
+        requires room { HasRoom self.old.gate (prepared ready) }
+        requires may { MayRecord self.old (prepared ready) }
+        requires taken { refusal (rules_in self.old) (state_in self.old) (prepared ready) ≡ None }
+        ensures { Performs D.tells D.contents D.faults self.old (prepared ready) result self.new }
+    {
+        self.append_entry(ready.entry())?;
+        Ok(self.gate.apply(ready))
+    }
+
+    // Puts an entry last in the journal.
+    fn append_entry(&mut self, entry: &Recorded) -> Result<(), Refusal>
         requires kept { IsKept D.tells D.contents self.old.journal }
         requires handed_out { IsHandedOut self.old.journal }
-        requires fits { MayBeHanded accept.now.parts accept.now.time }
+        requires entry { IsEntry entry.now }
+        requires small { length (entry_octets entry.now) ≤ most_payload }
         ensures same { self.new ≡ record self.old { journal = self.new.journal } }
-        ensures ok { OnOk result (HoldsMore D.tells D.contents self.old.journal self.new.journal (accept_octets accept.now ∷ [])) }
+        ensures ok { OnOk result (HoldsMore D.tells D.contents self.old.journal self.new.journal (entry_octets entry.now ∷ [])) }
         ensures refused { IfErr result (RefusesAppend D.tells D.contents self.old.journal self.new.journal) }
         ensures handed_out { IsHandedOut self.new.journal }
         ensures broken { is_store_broken self.new ≡ is_by_disk result }
         ensures counted { CountsFault (is_by_disk result) (D.faults (disk_in self.old)) (D.faults (disk_in self.new)) }
     {
-        let mut entry = Octets::new(self.alloc);
-        if let Err(Memory) = write_accept(&mut entry, accept) {
+        let mut payload = Octets::new(self.alloc);
+        if let Err(Memory) = write_entry(&mut payload, entry) {
             return Err(Refusal::Memory);
         }
-        if let Err(Memory) = self.journal.reserve(entry.as_slice()) {
+        if let Err(Memory) = self.journal.reserve(payload.as_slice()) {
             return Err(Refusal::Memory);
         }
         match self.journal.append() {
@@ -134,15 +138,13 @@ impl<D: Disk> Store<D> {
     /// Ends the store and gives its disk back.
     pub fn close(self) -> D
         ensures disk { result ≡ disk_in self }
-        ensures stands { (birth : ℕ) (accepts : List Accept) → IsStore D.tells D.contents self birth accepts →
-            OnTrue D.tells (StandsFor (stands (D.contents result)) birth accepts) }
+        ensures stands { (birth : ℕ) (entries : List Recorded) → IsStore D.tells D.contents self birth entries →
+            OnTrue D.tells (StandsFor (stands (D.contents result)) birth entries) }
     {
         let Store {
             alloc: _,
             journal,
-            limit: _,
-            waiting: _,
-            entries: _,
+            gate: _,
         } = self;
         journal.close()
     }
@@ -164,9 +166,9 @@ impl<D: Disk> Acceptor for Store<D> {
     ghost leads_on = { Leads-append D.tells D.contents D.faults };
 
     fn submit(&mut self, parts: Vec<Sms>, time: u64) -> Result<Reply, Refusal> {
-        self.accept(&Accept {
+        self.perform(Recorded::Accept(Accept {
             time,
             parts: Items::from_vec(parts),
-        })
+        }))
     }
 }
