@@ -205,7 +205,7 @@ module _
   -- the counts of the store that was opened were printed
   pub show_ends : {C : Type 0} (status : ℕ) (failure : Option Failure) (disk : Option D) (workers : List (Worker C))
       → Opens files shelf_faults tells contents faults name old mid before between settings it
-      → ShowsOne course tells contents faults settings.rules.outgoing mid new between after it status failure disk workers
+      → ShowsOne course tells contents faults settings.rules mid new between after it status failure disk workers
       → EndsShow course files shelf_faults tells contents faults name old new before after status failure disk workers
   show_ends status failure disk workers opens shows =
       let shelf : new.shelf ≡ mid.shelf = ap (λ r. r.shelf) shows.others in

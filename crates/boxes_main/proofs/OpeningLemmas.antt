@@ -6,7 +6,8 @@ use Rattle.config_groups.specs.Ranges.{AreSettings}
 use Rattle.config_groups.specs.declared.settings.Settings.{Settings}
 use Rattle.store_journal.specs.Area.{stands}
 use Rattle.store_disk.specs.Disk.{Areas}
-use Rattle.gate_store.specs.Accepts.{IsForeign, IsLeftAlone}
+use Rattle.route_rules.specs.declared.rules.Rules.{Rules}
+use Rattle.gate_store.specs.Entries.{IsForeign, IsLeftAlone}
 use Rattle.gate_store.specs.Store.{IsOpened, IsUnopened}
 use Rattle.gate_store.specs.declared.store.Store.{Store}
 use Rattle.gate_store.specs.declared.store_fault.StoreFault.{StoreFault}
@@ -23,26 +24,26 @@ told_before old new birth made told = subst (λ (s : Stock). IsToldWord s.word b
 
 module _ {D : Type 0} (tells : Bool) (contents : D → Areas) (faults : D → ℕ) (stated : Areas) where
   -- a store that was opened on a new disk that reads as stated
-  opened_as : (areas : Areas) (before limit birth : ℕ) (it : Store D) → OnTrue tells (areas ≡ stated) → before ≡ 0
-      → IsOpened tells contents faults areas before limit birth it → IsOpened tells contents faults stated 0 limit birth it
-  opened_as areas before limit birth it reads none is = by_told tells reads is
+  opened_as : (areas : Areas) (before : ℕ) (rules : Rules) (birth : ℕ) (it : Store D) → OnTrue tells (areas ≡ stated) → before ≡ 0
+      → IsOpened tells contents faults areas before rules birth it → IsOpened tells contents faults stated 0 rules birth it
+  opened_as areas before rules birth it reads none is = by_told tells reads is
     where
-      by_told : (t : Bool) → OnTrue t (areas ≡ stated) → IsOpened t contents faults areas before limit birth it → IsOpened t contents faults stated 0 limit birth it
+      by_told : (t : Bool) → OnTrue t (areas ≡ stated) → IsOpened t contents faults areas before rules birth it → IsOpened t contents faults stated 0 rules birth it
       by_told true reads is =
-          subst (λ (x : Areas). IsOpened true contents faults x 0 limit birth it) reads (subst (λ (n : ℕ). IsOpened true contents faults areas n limit birth it) none is)
-      by_told false reads is = record { there = is.there; accepts = is.accepts; holds = is.holds; stood = tt; born = tt; limited = is.limited; unfailed = is.unfailed ∙ none }
+          subst (λ (x : Areas). IsOpened true contents faults x 0 rules birth it) reads (subst (λ (n : ℕ). IsOpened true contents faults areas n rules birth it) none is)
+      by_told false reads is = record { there = is.there; entries = is.entries; holds = is.holds; stood = tt; born = tt; ruled = is.ruled; unfailed = is.unfailed ∙ none }
 
   -- a disk that reads as stated, on which no store was opened
-  unopened_as : (areas : Areas) (before birth : ℕ) (disk : D) (fault : StoreFault) → OnTrue tells (areas ≡ stated) → before ≡ 0
-      → IsUnopened tells contents faults areas before birth disk fault → IsUnopened tells contents faults stated 0 birth disk fault
-  unopened_as areas before birth disk Foreign reads none is = (is.0 ∙ none, by_told tells reads is.1)
+  unopened_as : (areas : Areas) (before : ℕ) (rules : Rules) (birth : ℕ) (disk : D) (fault : StoreFault) → OnTrue tells (areas ≡ stated) → before ≡ 0
+      → IsUnopened tells contents faults areas before rules birth disk fault → IsUnopened tells contents faults stated 0 rules birth disk fault
+  unopened_as areas before rules birth disk Foreign reads none is = (is.0 ∙ none, by_told tells reads is.1)
     where
-      by_told : (t : Bool) → OnTrue t (areas ≡ stated) → OnTrue t (IsForeign (stands areas) × IsLeftAlone areas (contents disk) birth)
-          → OnTrue t (IsForeign (stands stated) × IsLeftAlone stated (contents disk) birth)
-      by_told true reads is = subst (λ (x : Areas). IsForeign (stands x) × IsLeftAlone x (contents disk) birth) reads is
+      by_told : (t : Bool) → OnTrue t (areas ≡ stated) → OnTrue t (IsForeign rules (stands areas) × IsLeftAlone areas (contents disk) birth)
+          → OnTrue t (IsForeign rules (stands stated) × IsLeftAlone stated (contents disk) birth)
+      by_told true reads is = subst (λ (x : Areas). IsForeign rules (stands x) × IsLeftAlone x (contents disk) birth) reads is
       by_told false reads is = tt
-  unopened_as areas before birth disk Disk reads none is = subst (λ n. Rose n (faults disk)) none is
-  unopened_as areas before birth disk Memory reads none is = (is.0 ∙ none, by_told tells reads is.1)
+  unopened_as areas before rules birth disk Disk reads none is = subst (λ n. Rose n (faults disk)) none is
+  unopened_as areas before rules birth disk Memory reads none is = (is.0 ∙ none, by_told tells reads is.1)
     where
       by_told : (t : Bool) → OnTrue t (areas ≡ stated) → OnTrue t (IsLeftAlone areas (contents disk) birth) → OnTrue t (IsLeftAlone stated (contents disk) birth)
       by_told true reads is = subst (λ (x : Areas). IsLeftAlone x (contents disk) birth) reads is
@@ -54,19 +55,19 @@ module _
   -- the store of settings is opened on a new disk
   pub opens_by : MakesOne before made → after ≡ made → IsToldWord made.word birth
       → OnTrue tells (contents disk ≡ before.disks settings.core.store_file) → faults disk ≡ 0
-      → (it : Store D) → IsOpened tells contents faults (contents disk) (faults disk) settings.rules.outgoing birth it
+      → (it : Store D) → IsOpened tells contents faults (contents disk) (faults disk) settings.rules birth it
       → OpensStore tells contents faults settings before after it
   opens_by makes same told reads none it is = record {
     made = subst (λ s. MakesOne before s) (sym same) makes;
     birth = birth;
     told = told_before before made birth makes told;
-    opened = opened_as tells contents faults (before.disks settings.core.store_file) (contents disk) (faults disk) settings.rules.outgoing birth it reads none is;
+    opened = opened_as tells contents faults (before.disks settings.core.store_file) (contents disk) (faults disk) settings.rules birth it reads none is;
   }
 
   -- or none is opened on it
   pub none_by : MakesOne before made → after ≡ made → IsToldWord made.word birth
       → OnTrue tells (contents disk ≡ before.disks settings.core.store_file) → faults disk ≡ 0
-      → (back : D) (fault : StoreFault) → IsUnopened tells contents faults (contents disk) (faults disk) birth back fault
+      → (back : D) (fault : StoreFault) → IsUnopened tells contents faults (contents disk) (faults disk) settings.rules birth back fault
       → OpensNone tells contents faults settings before after (failure_is.Store fault) (Some back)
   none_by makes same told reads none back fault is = record {
     made = subst (λ s. MakesOne before s) (sym same) makes;
@@ -75,7 +76,7 @@ module _
     cause = (
       birth,
       told_before before made birth makes told,
-      unopened_as tells contents faults (before.disks settings.core.store_file) (contents disk) (faults disk) birth back fault reads none is,
+      unopened_as tells contents faults (before.disks settings.core.store_file) (contents disk) (faults disk) settings.rules birth back fault reads none is,
     );
   }
 

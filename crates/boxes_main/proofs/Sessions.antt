@@ -6,16 +6,17 @@ use Rattle.kn_base.specs.Count.{Rose}
 use Rattle.kn_base.specs.Course.{Course}
 use Rattle.config_groups.specs.declared.settings.Settings.{Settings}
 use Rattle.gate_model.specs.Acceptor.{Deed}
+use Rattle.gate_model.specs.State.{State, totals_of}
 use Rattle.gate_model.specs.declared.totals.Totals.{Totals}
 use Rattle.sendsms_http.specs.Session.{AddsAll, Talks}
 use Rattle.sendsms_http.specs.declared.http_end.HttpEnd.{HttpEnd}
 use Rattle.store_journal.specs.Area.{stands}
 use Rattle.store_disk.specs.Disk.{Areas}
-use Rattle.sms_record.specs.declared.entry.accept.Accept.{Accept}
-use Rattle.gate_store.specs.Accepts.{StandsFor}
+use Rattle.gate_entries.specs.declared.recorded.Recorded.{Recorded}
+use Rattle.gate_store.specs.Entries.{start, state_of, AreInTurn, StandsFor}
+use Rattle.route_rules.specs.declared.rules.Rules.{Rules}
 use Rattle.gate_store.specs.Deeds.{Leads, done_of}
-use Rattle.gate_store.specs.Store.{IsStore, IsOpened, disk_in, is_store_broken}
-use Rattle.gate_store.specs.Totals.{totals_of}
+use Rattle.gate_store.specs.Store.{IsStore, IsOpened, disk_in, rules_in, state_in, is_store_broken}
 use Rattle.gate_store.specs.declared.store.Store.{Store}
 use Rattle.gate_store.proofs.Commits.{reasoned, spared, unfailed, gained, broke}
 use Rattle.gate_store.proofs.Opening.{told_weaker}
@@ -41,56 +42,61 @@ new_readings readings None (Some all) none adds = absurd cc
 
 module _ {D : Type 0} (tells : Bool) (contents : D → Areas) (faults : D → ℕ) where
   -- a store that was opened is what the areas stood for
-  pub found_by : (areas : Areas) (word : Option ℕ) (limit birth : ℕ) (store : Store D) → IsToldWord word birth
-      → (is : IsOpened tells contents faults areas 0 limit birth store) → IsFound tells contents faults areas word is.there is.accepts
-  found_by areas word limit birth store told is = record {
-    each = is.holds.each;
+  pub found_by : (areas : Areas) (word : Option ℕ) (rules : Rules) (birth : ℕ) (store : Store D) → IsToldWord word birth
+      → (is : IsOpened tells contents faults areas 0 rules birth store) → IsFound tells contents faults areas word rules is.there is.entries
+  found_by areas word rules birth store told is = record {
+    in_turn = subst (λ (r : Rules). AreInTurn (start r) is.entries) is.ruled is.holds.in_turn;
     stood = is.stood;
     born = told_weaker tells _ _ (λ f unborn. subst (λ n. IsToldWord word n) (sym (f unborn)) told) is.born;
   }
 
+  -- its state is what its entries make
+  pub opened_state : (store : Store D) (rules : Rules) (birth : ℕ) (areas : Areas) (is : IsOpened tells contents faults areas 0 rules birth store)
+      → state_in store ≡ state_of rules is.entries
+  opened_state store rules birth areas is = is.holds.state ∙ ap (λ (r : Rules). state_of r is.entries) is.ruled
+
   -- what deeds on a store that was opened leave on its disk, by whether it broke
-  commits_by : (store later : Store D) (deeds : List Deed) (areas : Areas) (limit birth : ℕ) (disk : D) (is : IsOpened tells contents faults areas 0 limit birth store)
+  commits_by : (store later : Store D) (deeds : List Deed) (areas : Areas) (rules : Rules) (birth : ℕ) (disk : D) (is : IsOpened tells contents faults areas 0 rules birth store)
       → Leads tells contents faults store deeds later → disk ≡ disk_in later
-      → ((b : ℕ) (all : List Accept) → IsStore tells contents later b all → OnTrue tells (StandsFor (stands (contents disk)) b all))
-      → (broken : Bool) → is_store_broken later ≡ broken → Commits tells contents faults broken is.there is.accepts deeds disk
-  commits_by store later deeds areas limit birth disk is led same stand true broken =
+      → ((b : ℕ) (all : List Recorded) → IsStore tells contents later b all → OnTrue tells (StandsFor (stands (contents disk)) b all))
+      → (broken : Bool) → is_store_broken later ≡ broken → Commits tells contents faults broken is.there is.entries deeds disk
+  commits_by store later deeds areas rules birth disk is led same stand true broken =
       let went = broke tells contents faults store later deeds led is.holds.journal.whole broken in
       (went.0, subst (λ n. Rose n (faults disk)) is.unfailed (subst (λ d. Rose (faults (disk_in store)) (faults d)) (sym same) went.1))
-  commits_by store later deeds areas limit birth disk is led same stand false whole = (
+  commits_by store later deeds areas rules birth disk is led same stand false whole = (
     spared tells contents faults store later deeds led whole,
     ap faults same ∙ (unfailed tells contents faults store later deeds led whole ∙ is.unfailed),
-    stand is.there (is.accepts ++ done_of deeds) (gained tells contents faults store later deeds led whole is.there is.accepts is.holds),
+    stand is.there (is.entries ++ done_of deeds) (gained tells contents faults store later deeds led whole is.there is.entries is.holds),
   )
 
   -- the session over a store that was opened
   pub session_by : (settings : Settings) (store later : Store D) (old new : Course) (readings : List ℕ) (deeds : List Deed) (end : HttpEnd) (disk : D)
       → Talks settings octets_limit old new readings deeds end → Leads tells contents faults store deeds later → disk ≡ disk_in later
-      → ((b : ℕ) (all : List Accept) → IsStore tells contents later b all → OnTrue tells (StandsFor (stands (contents disk)) b all))
-      → (areas : Areas) (word : Option ℕ) (birth : ℕ) → IsToldWord word birth → IsOpened tells contents faults areas 0 settings.rules.outgoing birth store
+      → ((b : ℕ) (all : List Recorded) → IsStore tells contents later b all → OnTrue tells (StandsFor (stands (contents disk)) b all))
+      → (areas : Areas) (word : Option ℕ) (birth : ℕ) → IsToldWord word birth → IsOpened tells contents faults areas 0 settings.rules birth store
       → IsSession tells contents faults settings areas word old new readings end disk (fault_by (is_store_broken later) end)
   session_by settings store later old new readings deeds end disk talks led same stand areas word birth told is = record {
     birth = is.there;
-    accepts = is.accepts;
-    found = found_by areas word settings.rules.outgoing birth store told is;
+    entries = is.entries;
+    found = found_by areas word settings.rules birth store told is;
     deeds = deeds;
     talks = talks;
-    reasoned = reasoned tells contents faults settings.rules.outgoing store later deeds led is.limited is.there is.accepts is.holds;
+    reasoned = reasoned tells contents faults settings.rules (state_of settings.rules is.entries) store later deeds led is.ruled (opened_state store settings.rules birth areas is);
     broken = is_store_broken later;
-    commits = commits_by store later deeds areas settings.rules.outgoing birth disk is led same stand (is_store_broken later) refl;
+    commits = commits_by store later deeds areas settings.rules birth disk is led same stand (is_store_broken later) refl;
     failed = refl;
   }
 
 module _
-    {V S O E D C : Type 0} (course : O → Course) (tells : Bool) (contents : D → Areas) (faults : D → ℕ) (limit : ℕ)
+    {V S O E D C : Type 0} (course : O → Course) (tells : Bool) (contents : D → Areas) (faults : D → ℕ) (rules : Rules)
     (old new : Rooms V S O E) (before after : Stock) (output : O) (store : Store D) (totals : Totals) (disk : D) (workers : List (Worker C)) where
   -- what a store counts was printed on the house's output
   pub shows_by : new ≡ record old { output = output } → after ≡ before
       → (status : ℕ) (failure : Option Failure) (fault : Option OutputFault) → status ≡ status_of failure → failure ≡ option_map Output fault → workers ≡ []
       → Prints (show_text totals) fault (course old.output) (course output)
-      → ((b : ℕ) (all : List Accept) → IsStore tells contents store b all → totals ≡ totals_of all) → disk ≡ disk_in store
-      → ((b : ℕ) (all : List Accept) → IsStore tells contents store b all → OnTrue tells (StandsFor (stands (contents disk)) b all))
-      → ShowsOne course tells contents faults limit old new before after store status failure (Some disk) workers
+      → (totals ≡ totals_of (state_in store)) → disk ≡ disk_in store
+      → ((b : ℕ) (all : List Recorded) → IsStore tells contents store b all → OnTrue tells (StandsFor (stands (contents disk)) b all))
+      → ShowsOne course tells contents faults rules old new before after store status failure (Some disk) workers
   shows_by lent stays status failure fault right failed alone prints counted same stand =
       let gave : output ≡ new.output = sym (ap (λ r. r.output) lent) in
       record {
@@ -102,13 +108,13 @@ module _
         failed = failed;
         shown = λ areas word birth told is. record {
           birth = is.there;
-          accepts = is.accepts;
-          found = found_by tells contents faults areas word limit birth store told is;
-          prints = subst (λ (t : Totals). Prints (show_text t) fault (course old.output) (course new.output)) (counted is.there is.accepts is.holds)
+          entries = is.entries;
+          found = found_by tells contents faults areas word rules birth store told is;
+          prints = subst (λ (t : Totals). Prints (show_text t) fault (course old.output) (course new.output)) (counted ∙ ap totals_of (opened_state tells contents faults store rules birth areas is))
               (subst (λ (o : O). Prints (show_text totals) fault (course old.output) (course o)) gave prints);
           after = disk;
           handed_back = refl;
-          stood = stand is.there is.accepts is.holds;
+          stood = stand is.there is.entries is.holds;
           unfailed = ap faults same ∙ is.unfailed;
         };
       }
@@ -124,7 +130,7 @@ module _
       → workers ≡ record { role = role_is.Http; clock = Some clock_later; ends = ended_as.Http end ∷ [] } ∷ []
       → IfSome (readings_of clock) (λ so_far. so_far ≡ []) → AddsAll readings (readings_of clock) (readings_of clock_later)
       → Talks settings octets_limit (course mid.visitor) (course peer) readings deeds end → Leads tells contents faults store deeds later → disk ≡ disk_in later
-      → ((b : ℕ) (all : List Accept) → IsStore tells contents later b all → OnTrue tells (StandsFor (stands (contents disk)) b all))
+      → ((b : ℕ) (all : List Recorded) → IsStore tells contents later b all → OnTrue tells (StandsFor (stands (contents disk)) b all))
       → ServesOne course tells contents faults readings_of settings old new before after store status failure (Some disk) workers
   serves_by first lent same stays status failure right failed left new_clock read talks led same_disk stand =
       let rooms : new ≡ record old { visitor = peer } = subst (λ (r : Rooms V S O E). new ≡ record r { visitor = peer }) first lent in

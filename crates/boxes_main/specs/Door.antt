@@ -10,8 +10,8 @@ use Rattle.sendsms_http.specs.declared.http_end.HttpEnd.{HttpEnd}
 use Rattle.sendsms_http.specs.declared.http_end.HttpEnd.TheVariants as end_is
 use Rattle.store_journal.specs.Area.{stands}
 use Rattle.store_disk.specs.Disk.{Areas}
-use Rattle.sms_record.specs.declared.entry.accept.Accept.{Accept}
-use Rattle.gate_store.specs.Accepts.{StandsFor}
+use Rattle.gate_entries.specs.declared.recorded.Recorded.{Recorded}
+use Rattle.gate_store.specs.Entries.{StandsFor, state_of}
 use Rattle.gate_store.specs.Deeds.{done_of, AreReasoned}
 use Rattle.boxes_main.specs.House.{Rooms, Stock}
 use Rattle.boxes_main.specs.Opening.{IsConfigured, IsFound, IsNotOpen}
@@ -42,23 +42,23 @@ pub record IsUnserved {V C : Type 0} (old new : V) (workers : List (Worker C)) :
 module _ {D : Type 0} (tells : Bool) (contents : D → Areas) (faults : D → ℕ) where
   -- What a session's deeds left on the disk. Where a call of it failed in a commit, not all deeds are spared. Else all are, no
   -- call failed, and the disk stands for the entries that were there and, behind them, those of the deeds that were done, in order.
-  abbrev pub Commits : (broken : Bool) (birth : ℕ) → List Accept → List Deed → D → Type 0
-  Commits true birth accepts deeds disk = ¬ (All IsSpared deeds) × Rose 0 (faults disk)
-  Commits false birth accepts deeds disk =
-      All IsSpared deeds × (faults disk ≡ 0) × OnTrue tells (StandsFor (stands (contents disk)) birth (accepts ++ done_of deeds))
+  abbrev pub Commits : (broken : Bool) (birth : ℕ) → List Recorded → List Deed → D → Type 0
+  Commits true birth entries deeds disk = ¬ (All IsSpared deeds) × Rose 0 (faults disk)
+  Commits false birth entries deeds disk =
+      All IsSpared deeds × (faults disk ≡ 0) × OnTrue tells (StandsFor (stands (contents disk)) birth (entries ++ done_of deeds))
 
-  -- A session that was served by settings over the store that the areas stood for. Each outcome has its reason in the entries before
-  -- it and the limit of the settings.
+  -- A session that was served by settings over the store that the areas stood for. Each outcome has its reason in the state before
+  -- it, by the rules of the settings.
   pub record IsSession
       (settings : Settings) (areas : Areas) (word : Option ℕ) (old new : Course) (readings : List ℕ) (end : HttpEnd) (disk : D) (fault : Option SessionFault) : Type 0 where
     pub birth : ℕ
-    pub accepts : List Accept
-    pub found : IsFound tells contents faults areas word birth accepts
+    pub entries : List Recorded
+    pub found : IsFound tells contents faults areas word settings.rules birth entries
     pub deeds : List Deed
     pub talks : Talks settings octets_limit old new readings deeds end
-    pub reasoned : AreReasoned settings.rules.outgoing accepts deeds
+    pub reasoned : AreReasoned settings.rules (state_of settings.rules entries) deeds
     pub broken : Bool
-    pub commits : Commits broken birth accepts deeds disk
+    pub commits : Commits broken birth entries deeds disk
     pub failed : fault ≡ fault_by broken end
 
 module _ {D C : Type 0} (tells : Bool) (contents : D → Areas) (faults : D → ℕ) (readings_of : C → Option (List ℕ)) where

@@ -34,7 +34,7 @@ module _
     pub fault : Option SessionFault
     pub failed : failure ≡ option_map Session fault
     pub served : (areas : Areas) (word : Option ℕ) (birth : ℕ) → IsToldWord word birth
-        → IsOpened tells contents faults areas 0 settings.rules.outgoing birth store
+        → IsOpened tells contents faults areas 0 settings.rules birth store
         → IsServed tells contents faults readings_of settings areas word (course old.visitor) (course new.visitor) workers disk fault
 
 module _

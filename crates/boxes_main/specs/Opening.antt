@@ -8,9 +8,9 @@ use Rattle.config_groups.specs.declared.read.ConfigFault.TheVariants.{NoFile}
 use Rattle.config_groups.specs.declared.settings.Settings.{Settings}
 use Rattle.store_journal.specs.Area.{stands, unborn}
 use Rattle.store_disk.specs.Disk.{Areas}
-use Rattle.sms_record.specs.declared.entry.accept.Accept.{Accept}
-use Rattle.sms_record.specs.Entry.{IsAccept}
-use Rattle.gate_store.specs.Accepts.{StandsFor}
+use Rattle.gate_entries.specs.declared.recorded.Recorded.{Recorded}
+use Rattle.gate_store.specs.Entries.{start, AreInTurn, StandsFor}
+use Rattle.route_rules.specs.declared.rules.Rules.{Rules}
 use Rattle.gate_store.specs.Store.{IsUnopened}
 use Rattle.gate_store.specs.declared.store_fault.StoreFault.{StoreFault}
 use Rattle.gate_store.specs.declared.store_fault.StoreFault.TheVariants as store_is
@@ -38,15 +38,15 @@ module _ {S : Type 0} (files : S → Option (List (List ℕ × List ℕ))) (faul
 
 module _ {D : Type 0} (tells : Bool) (contents : D → Areas) (faults : D → ℕ) where
   -- No store was opened on the house's disk, or there was no memory for a disk.
-  abbrev pub IsNoStore : Areas → (word : Option ℕ) → Option D → StoreFault → Type 0
-  IsNoStore areas word disk fault =
-      MatchOption disk (fault ≡ store_is.Memory) (λ disk. (birth : ℕ) × IsToldWord word birth × IsUnopened tells contents faults areas 0 birth disk fault)
+  abbrev pub IsNoStore : Areas → (word : Option ℕ) → Rules → Option D → StoreFault → Type 0
+  IsNoStore areas word rules disk fault =
+      MatchOption disk (fault ≡ store_is.Memory) (λ disk. (birth : ℕ) × IsToldWord word birth × IsUnopened tells contents faults areas 0 rules birth disk fault)
 
-  -- A store that was opened, of this birth with these entries, is what the areas stood for; one that wasn't born was born with the
+  -- A store that was opened, of this birth with these entries, each in its turn, is what the areas stood for; one that wasn't born was born with the
   -- house's word.
-  pub record IsFound (areas : Areas) (word : Option ℕ) (birth : ℕ) (accepts : List Accept) : Type 0 where
-    pub each : All IsAccept accepts
-    pub stood : OnTrue tells (StandsFor (stands areas) birth accepts)
+  pub record IsFound (areas : Areas) (word : Option ℕ) (rules : Rules) (birth : ℕ) (entries : List Recorded) : Type 0 where
+    pub in_turn : AreInTurn (start rules) entries
+    pub stood : OnTrue tells (StandsFor (stands areas) birth entries)
     pub born : OnTrue tells (stands areas ≡ unborn → IsToldWord word birth)
 
 module _
@@ -60,6 +60,6 @@ module _
   IsNotOpen name old new stock disk NoStoreFile = (settings : Settings) × LacksStoreFile files shelf_faults name old new settings × (disk ≡ None)
   IsNotOpen name old new stock disk (Store fault) =
       (settings : Settings) × IsConfigured files shelf_faults name old new settings
-      × IsNoStore tells contents faults (stock.disks settings.core.store_file) stock.word disk fault
+      × IsNoStore tells contents faults (stock.disks settings.core.store_file) stock.word settings.rules disk fault
   IsNotOpen name old new stock disk (Session fault) = ⊥
   IsNotOpen name old new stock disk (Output fault) = ⊥

@@ -17,14 +17,14 @@ module _ {D : Type 0} (tells : Bool) (contents : D → Areas) (faults : D → �
     pub made : MakesOne before after
     pub birth : ℕ
     pub told : IsToldWord before.word birth
-    pub opened : IsOpened tells contents faults (before.disks settings.core.store_file) 0 settings.rules.outgoing birth store
+    pub opened : IsOpened tells contents faults (before.disks settings.core.store_file) 0 settings.rules birth store
 
   -- It wasn't.
   pub record OpensNone (settings : Settings) (before after : Stock) (failure : Failure) (disk : Option D) : Type 0 where
     pub made : MakesFor disk before after
     pub fault : StoreFault
     pub failed : failure ≡ failure_is.Store fault
-    pub cause : IsNoStore tells contents faults (before.disks settings.core.store_file) before.word disk fault
+    pub cause : IsNoStore tells contents faults (before.disks settings.core.store_file) before.word settings.rules disk fault
 
 module _
     {V S O E D : Type 0} (files : S → Option (List (List ℕ × List ℕ))) (shelf_faults : S → ℕ)

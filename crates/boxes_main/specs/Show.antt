@@ -8,9 +8,10 @@ use Rattle.config_groups.specs.declared.settings.Settings.{Settings}
 use Rattle.gate_model.specs.declared.totals.Totals.{Totals}
 use Rattle.store_journal.specs.Area.{stands}
 use Rattle.store_disk.specs.Disk.{Areas}
-use Rattle.sms_record.specs.declared.entry.accept.Accept.{Accept}
-use Rattle.gate_store.specs.Accepts.{StandsFor}
-use Rattle.gate_store.specs.Totals.{totals_of}
+use Rattle.gate_entries.specs.declared.recorded.Recorded.{Recorded}
+use Rattle.gate_model.specs.State.{totals_of}
+use Rattle.gate_store.specs.Entries.{StandsFor, state_of}
+use Rattle.route_rules.specs.declared.rules.Rules.{Rules}
 use Rattle.boxes_main.specs.House.{Rooms, Stock}
 use Rattle.boxes_main.specs.Opening.{IsConfigured, IsFound, IsNotOpen}
 use Rattle.boxes_main.specs.declared.failure.Failure.{Failure}
@@ -46,14 +47,14 @@ Prints text (Some Memory) old new = (gone : ℕ) × SaysFront text gone old new 
 
 module _ {D : Type 0} (tells : Bool) (contents : D → Areas) (faults : D → ℕ) where
   -- What the store counts that the areas stood for was printed, and the disk that is handed back stands for the same store.
-  pub record IsShown (areas : Areas) (word : Option ℕ) (old new : Course) (disk : Option D) (fault : Option OutputFault) : Type 0 where
+  pub record IsShown (areas : Areas) (word : Option ℕ) (rules : Rules) (old new : Course) (disk : Option D) (fault : Option OutputFault) : Type 0 where
     pub birth : ℕ
-    pub accepts : List Accept
-    pub found : IsFound tells contents faults areas word birth accepts
-    pub prints : Prints (show_text (totals_of accepts)) fault old new
+    pub entries : List Recorded
+    pub found : IsFound tells contents faults areas word rules birth entries
+    pub prints : Prints (show_text (totals_of (state_of rules entries))) fault old new
     pub after : D
     pub handed_back : disk ≡ Some after
-    pub stood : OnTrue tells (StandsFor (stands (contents after)) birth accepts)
+    pub stood : OnTrue tells (StandsFor (stands (contents after)) birth entries)
     pub unfailed : faults after ≡ 0
 
 module _
@@ -63,7 +64,7 @@ module _
   pub record Shows (name : Option (List ℕ)) (old new : Rooms V S O E) (stock : Stock) (disk : Option D) (fault : Option OutputFault) : Type 0 where
     pub settings : Settings
     pub configured : IsConfigured files shelf_faults name old.shelf new.shelf settings
-    pub shown : IsShown tells contents faults (stock.disks settings.core.store_file) stock.word (course old.output) (course new.output) disk fault
+    pub shown : IsShown tells contents faults (stock.disks settings.core.store_file) stock.word settings.rules (course old.output) (course new.output) disk fault
 
   -- No store stood open, and nothing was printed.
   pub record ShowsNone (name : Option (List ℕ)) (old new : Rooms V S O E) (stock : Stock) (disk : Option D) (failure : Failure) : Type 0 where

@@ -3,6 +3,7 @@ use Rattle.std.specs.Prelude.{◌≡◌, ℕ, Bool, List, [], Option, option_map
 use Rattle.kn_base.specs.Course.{Course}
 use Rattle.store_disk.specs.Disk.{Areas}
 use Rattle.gate_store.specs.Store.{IsOpened}
+use Rattle.route_rules.specs.declared.rules.Rules.{Rules}
 use Rattle.gate_store.specs.declared.store.Store.{Store}
 use Rattle.boxes_main.specs.Failure.{status_of}
 use Rattle.boxes_main.specs.House.{Rooms, Stock, MakesFor, IsToldWord}
@@ -16,7 +17,7 @@ module _
     {V S O E D C : Type 0} (course : O → Course) (tells : Bool) (contents : D → Areas) (faults : D → ℕ) where
   -- What a store counts was printed.
   pub record ShowsOne
-      (limit : ℕ) (old new : Rooms V S O E) (before after : Stock) (store : Store D)
+      (rules : Rules) (old new : Rooms V S O E) (before after : Stock) (store : Store D)
       (status : ℕ) (failure : Option Failure) (disk : Option D) (workers : List (Worker C)) : Type 0 where
     pub others : new ≡ record old { output = new.output }
     pub stock : after ≡ before
@@ -24,8 +25,8 @@ module _
     pub no_worker : workers ≡ []
     pub fault : Option OutputFault
     pub failed : failure ≡ option_map Output fault
-    pub shown : (areas : Areas) (word : Option ℕ) (birth : ℕ) → IsToldWord word birth → IsOpened tells contents faults areas 0 limit birth store
-        → IsShown tells contents faults areas word (course old.output) (course new.output) disk fault
+    pub shown : (areas : Areas) (word : Option ℕ) (birth : ℕ) → IsToldWord word birth → IsOpened tells contents faults areas 0 rules birth store
+        → IsShown tells contents faults areas word rules (course old.output) (course new.output) disk fault
 
 module _
     {V S O E D C : Type 0} (course : O → Course) (files : S → Option (List (List ℕ × List ℕ))) (shelf_faults : S → ℕ)

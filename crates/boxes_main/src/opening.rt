@@ -1,6 +1,6 @@
 //! What stands before any work on a store: the configuration is read, and the store that it names is opened.
 
-ghost use Rattle.std.specs.Prelude.{◌≡◌, ◌≢◌, [], Some, Ok, Err, IfOk, IfErr};
+ghost use Rattle.std.specs.Prelude.{◌≡◌, ◌≢◌, [], Some, None, Ok, Err, IfOk, IfErr};
 ghost use Rattle.config_groups.specs.Ranges.{AreSettings};
 ghost use Rattle.boxes_main.specs.Opening.{Reads, IsConfigured, IsNotOpen};
 ghost use Rattle.boxes_main.specs.OpeningSteps.{OpensStore, OpensNone, Opens, OpensNothing};
@@ -8,6 +8,7 @@ ghost use Rattle.boxes_main.specs.OpeningSteps.{OpensStore, OpensNone, Opens, Op
 use crate::{Failure, House};
 use config_groups::{ConfigFault, Settings, read_config};
 use gate_store::{Store, StoreFault};
+use route_rules::copy_rules;
 use std::alloc::Global;
 
 /// The settings of a configuration, and the store that it names.
@@ -52,23 +53,35 @@ fn configured<H: House>(alloc: Global, house: &mut H, name: &[u8]) -> Result<Set
     }
 }
 
+/// There was no memory for the store, and no disk was made.
+fn without_memory<H: House>() -> Unopened<H>
+    ensures failure { result.failure ≡ Failure.Store StoreFault.Memory }
+    ensures disk { result.disk ≡ None }
+{
+    Unopened {
+        failure: Failure::Store(StoreFault::Memory),
+        disk: None,
+    }
+}
+
 /// Opens the store of settings on a disk of the house.
 fn open_store<H: House>(
     alloc: Global,
     house: &mut H,
     settings: &Settings,
 ) -> Result<Store<H::D>, Unopened<H>>
+    requires in_range { AreSettings settings.now }
     ensures rooms { H.rooms house.new ≡ H.rooms house.old }
     ensures ok { IfOk result (OpensStore H.D.tells H.D.contents H.D.faults settings.now (H.stock house.old) (H.stock house.new)) }
     ensures err { IfErr result (λ unopened. OpensNone H.D.tells H.D.contents H.D.faults settings.now (H.stock house.old) (H.stock house.new) unopened.failure unopened.disk) }
 {
-    let Ok(disk) = house.disk(alloc, settings.core.store_file.as_slice()) else {
-        return Err(Unopened {
-            failure: Failure::Store(StoreFault::Memory),
-            disk: None,
-        });
+    let Ok(rules) = copy_rules(alloc, &settings.rules) else {
+        return Err(without_memory());
     };
-    match Store::open(alloc, disk, settings.rules.outgoing, house.word()) {
+    let Ok(disk) = house.disk(alloc, settings.core.store_file.as_slice()) else {
+        return Err(without_memory());
+    };
+    match Store::open(alloc, disk, rules, house.word()) {
         Ok(store) => Ok(store),
         Err((disk, fault)) => Err(Unopened {
             failure: Failure::Store(fault),

@@ -1,13 +1,13 @@
 //! The command `show`: what the store counts, on standard output.
 
-ghost use Rattle.std.specs.Prelude.{◌≡◌, ◌↔◌, ℕ, [], Some, None, codes, map, option_map};
+ghost use Rattle.std.specs.Prelude.{◌≡◌, ◌↔◌, [], Some, None, codes, map, option_map};
 ghost use Rattle.boxes_main.specs.Command.{configuration_of};
 ghost use Rattle.boxes_main.specs.Failure.{status_of, Tells};
 ghost use Rattle.boxes_main.specs.House.{MakesFor};
 ghost use Rattle.boxes_main.specs.Show.{ComesToShow};
 ghost use Rattle.boxes_main.specs.ShowSteps.{ShowsOne, EndsShow};
 ghost use Rattle.boxes_main.specs.Worker.{worker_of};
-ghost use Rattle.gate_store.specs.Store.{IsOpen};
+ghost use Rattle.route_rules.specs.declared.rules.Rules.{Rules};
 
 use crate::command::{Command, read_command};
 use crate::command_end::{tell_end, unserved};
@@ -28,7 +28,7 @@ fn failure_of(fault: Option<OutputFault>) -> Option<Failure>
 
 /// Prints what a store counts, and closes it.
 fn print<H: House>(alloc: Global, house: &mut H, store: Store<H::D>) -> Ended<H>
-    ensures { (limit : ℕ) → ShowsOne H.Ou.course H.D.tells H.D.contents H.D.faults limit
+    ensures { (rules : Rules) → ShowsOne H.Ou.course H.D.tells H.D.contents H.D.faults rules
         (H.rooms house.old) (H.rooms house.new) (H.stock house.old) (H.stock house.new) store
         result.status result.failure result.disk (map worker_of result.workers) }
 {

@@ -17,4 +17,4 @@ returns-in-Ok g c =
     show_ends g.H.Ou.Meter.course g.H.S.Shelf.files g.H.S.Shelf.faults g.H.D.Disk.tells g.H.D.Disk.contents g.H.D.Disk.faults
     name (rooms house) (rooms c.open.new.house) (rooms c.print.new.house) (stock house) (stock c.open.new.house) (stock c.print.new.house)
     c.in-Ok.field-0.settings c.in-Ok.field-0.store c.print.result.status c.print.result.failure c.print.result.disk (map worker_of c.print.result.workers)
-    (subst opens named c.in-Ok.ensures.ok) (c.print.ensures c.in-Ok.field-0.settings.rules.outgoing)
+    (subst opens named c.in-Ok.ensures.ok) (c.print.ensures c.in-Ok.field-0.settings.rules)
