@@ -10,7 +10,7 @@ use Rattle.sendsms_http.specs.declared.http_end.HttpEnd.{HttpEnd}
 use Rattle.sendsms_http.specs.declared.http_end.HttpEnd.TheVariants as end_is
 use Rattle.store_journal.specs.Area.{stands}
 use Rattle.store_disk.specs.Disk.{Areas}
-use Rattle.sms_record.specs.declared.entry.accept.Accept.{Accept}
+use Rattle.gate_entries.specs.declared.accept.Accept.{Accept}
 use Rattle.gate_store.specs.Accepts.{StandsFor}
 use Rattle.gate_store.specs.Deeds.{done_of, AreReasoned}
 use Rattle.boxes_main.specs.House.{Rooms, Stock}

@@ -8,8 +8,8 @@ use Rattle.config_groups.specs.declared.read.ConfigFault.TheVariants.{NoFile}
 use Rattle.config_groups.specs.declared.settings.Settings.{Settings}
 use Rattle.store_journal.specs.Area.{stands, unborn}
 use Rattle.store_disk.specs.Disk.{Areas}
-use Rattle.sms_record.specs.declared.entry.accept.Accept.{Accept}
-use Rattle.sms_record.specs.Entry.{IsAccept}
+use Rattle.gate_entries.specs.declared.accept.Accept.{Accept}
+use Rattle.gate_entries.specs.Entry.{IsAccept}
 use Rattle.gate_store.specs.Accepts.{StandsFor}
 use Rattle.gate_store.specs.Store.{IsUnopened}
 use Rattle.gate_store.specs.declared.store_fault.StoreFault.{StoreFault}

@@ -8,7 +8,7 @@ use Rattle.config_groups.specs.declared.settings.Settings.{Settings}
 use Rattle.gate_model.specs.declared.totals.Totals.{Totals}
 use Rattle.store_journal.specs.Area.{stands}
 use Rattle.store_disk.specs.Disk.{Areas}
-use Rattle.sms_record.specs.declared.entry.accept.Accept.{Accept}
+use Rattle.gate_entries.specs.declared.accept.Accept.{Accept}
 use Rattle.gate_store.specs.Accepts.{StandsFor}
 use Rattle.gate_store.specs.Totals.{totals_of}
 use Rattle.boxes_main.specs.House.{Rooms, Stock}

@@ -6,8 +6,8 @@ use Rattle.std.proofs.lemmas.List.Sums.{sum_by-append}
 use Rattle.kn_base.specs.Count.{last_count, next_count}
 use Rattle.store_disk.specs.Disk.{Areas}
 use Rattle.store_journal.specs.Journal.{IsJournal, HoldsMore, IsHandedOut}
-use Rattle.sms_record.specs.declared.entry.accept.Accept.{Accept}
-use Rattle.sms_record.specs.Entry.{IsAccept, accept_octets}
+use Rattle.gate_entries.specs.declared.accept.Accept.{Accept}
+use Rattle.gate_entries.specs.Entry.{IsAccept, accept_octets}
 use Rattle.gate_store.specs.Accepts.{entries}
 use Rattle.gate_store.specs.Store.{IsStore}
 use Rattle.gate_store.specs.declared.store.Store.{Store}

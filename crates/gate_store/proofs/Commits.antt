@@ -9,7 +9,7 @@ use Rattle.gate_model.specs.declared.reply.Refusal.{Refusal}
 use Rattle.gate_model.specs.declared.reply.Refusal.TheVariants.{NoRoute, Full, Disk, Memory}
 use Rattle.gate_model.specs.declared.reply.Reply.{Reply}
 use Rattle.store_disk.specs.Disk.{Areas}
-use Rattle.sms_record.specs.declared.entry.accept.Accept.{Accept}
+use Rattle.gate_entries.specs.declared.accept.Accept.{Accept}
 use Rattle.gate_store.specs.Accepts.{messages}
 use Rattle.gate_store.specs.Deeds.{Does, Leads, IsReason, AreReasoned, CountsFault, is_by_disk, entries_of, done_of}
 use Rattle.gate_store.specs.Store.{IsStore, disk_in, limit_in, is_store_broken}

@@ -7,8 +7,8 @@ use Rattle.kn_base.specs.Count.{last_count, next_count}
 use Rattle.store_disk.specs.Disk.{Areas}
 use Rattle.store_journal.specs.Journal.{IsJournal, HoldsSame, Hands, disk_of, birth_of, left}
 use Rattle.store_journal.specs.declared.journal.Journal.{Journal}
-use Rattle.sms_record.specs.declared.entry.accept.Accept.{Accept}
-use Rattle.sms_record.specs.Entry.{IsAccept, accept_octets}
+use Rattle.gate_entries.specs.declared.accept.Accept.{Accept}
+use Rattle.gate_entries.specs.Entry.{IsAccept, accept_octets}
 use Rattle.gate_store.specs.Accepts.{entries, messages}
 use Rattle.gate_store.specs.StoreSteps.{CountsIn}
 

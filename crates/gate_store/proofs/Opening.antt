@@ -7,8 +7,8 @@ use Rattle.store_disk.specs.Disk.{Areas}
 use Rattle.store_journal.specs.Journal.{OpensAs, IsUntouched, disk_of, area_of, birth_of, left}
 use Rattle.store_disk.specs.declared.area.Area.{Area}
 use Rattle.store_journal.specs.declared.journal.Journal.{Journal}
-use Rattle.sms_record.specs.declared.entry.accept.Accept.{Accept}
-use Rattle.sms_record.specs.Entry.{IsAccept}
+use Rattle.gate_entries.specs.declared.accept.Accept.{Accept}
+use Rattle.gate_entries.specs.Entry.{IsAccept}
 use Rattle.gate_store.specs.Accepts.{entries, StandsFor, IsForeign, IsLeftAlone}
 use Rattle.gate_store.specs.Store.{IsOpened, IsUnopened}
 use Rattle.gate_store.specs.StoreSteps.{Loads, LoadsNone}

@@ -2,8 +2,8 @@
 use Rattle.std.specs.Prelude.{◌≡◌, ◌⊎◌, ℕ, List, [], length, map, All, sum_by}
 use Rattle.store_journal.specs.Area.{Standing, unborn, born, foreign, stands}
 use Rattle.store_disk.specs.Disk.{Areas}
-use Rattle.sms_record.specs.declared.entry.accept.Accept.{Accept}
-use Rattle.sms_record.specs.Entry.{IsAccept, accept_octets}
+use Rattle.gate_entries.specs.declared.accept.Accept.{Accept}
+use Rattle.gate_entries.specs.Entry.{IsAccept, accept_octets}
 
 -- the payloads that entries are kept as, in their order
 abbrev pub entries : List Accept → List (List ℕ)

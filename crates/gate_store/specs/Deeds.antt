@@ -8,7 +8,7 @@ use Rattle.gate_model.specs.declared.reply.Refusal.TheVariants.{NoRoute, Full, D
 use Rattle.gate_model.specs.declared.reply.Reply.{Reply}
 use Rattle.gate_model.specs.declared.reply.Reply.TheVariants.{Accepted}
 use Rattle.store_disk.specs.Disk.{Areas}
-use Rattle.sms_record.specs.declared.entry.accept.Accept.{Accept}
+use Rattle.gate_entries.specs.declared.accept.Accept.{Accept}
 use Rattle.gate_store.specs.Accepts.{messages}
 use Rattle.gate_store.specs.Store.{IsStore, disk_in, waiting_in, limit_in, is_store_broken}
 use Rattle.gate_store.specs.declared.store.Store.{Store}

@@ -5,8 +5,8 @@ use Rattle.kn_base.specs.Count.{Rose, last_count}
 use Rattle.store_journal.specs.Area.{stands, unborn}
 use Rattle.store_disk.specs.Disk.{Areas}
 use Rattle.store_journal.specs.Journal.{IsJournal, IsHandedOut, disk_of, is_broken}
-use Rattle.sms_record.specs.declared.entry.accept.Accept.{Accept}
-use Rattle.sms_record.specs.Entry.{IsAccept}
+use Rattle.gate_entries.specs.declared.accept.Accept.{Accept}
+use Rattle.gate_entries.specs.Entry.{IsAccept}
 use Rattle.gate_store.specs.Accepts.{entries, messages, StandsFor, IsForeign, IsLeftAlone}
 use Rattle.gate_store.specs.declared.store.Store.{Store}
 use Rattle.gate_store.specs.declared.store_fault.StoreFault.{StoreFault}

@@ -8,8 +8,8 @@ use Rattle.store_disk.specs.Disk.{Areas}
 use Rattle.store_journal.specs.Journal.{HoldsSame, disk_of, birth_of, left}
 use Rattle.store_disk.specs.declared.area.Area.{Area}
 use Rattle.store_journal.specs.declared.journal.Journal.{Journal}
-use Rattle.sms_record.specs.declared.entry.accept.Accept.{Accept}
-use Rattle.sms_record.specs.Entry.{IsAccept, accept_octets}
+use Rattle.gate_entries.specs.declared.accept.Accept.{Accept}
+use Rattle.gate_entries.specs.Entry.{IsAccept, accept_octets}
 use Rattle.gate_store.specs.Accepts.{entries}
 use Rattle.gate_store.specs.Store.{IsStore, disk_in, limit_in}
 use Rattle.gate_store.specs.declared.store.Store.{Store}

@@ -2,7 +2,7 @@
 use Rattle.std.specs.Prelude.{List, length, min}
 use Rattle.kn_base.specs.Count.{last_count}
 use Rattle.gate_model.specs.declared.totals.Totals.{Totals}
-use Rattle.sms_record.specs.declared.entry.accept.Accept.{Accept}
+use Rattle.gate_entries.specs.declared.accept.Accept.{Accept}
 use Rattle.gate_store.specs.Accepts.{messages}
 
 -- A store whose entries are messages that were accepted: none of them has ended, so all wait. Each count stands still at the last.

@@ -2,11 +2,11 @@
 
 ghost use Rattle.std.specs.Prelude.{◌≡◌, ◌∷◌, [], List, ℕ, IfOk, IfErr, OnOk};
 ghost use Rattle.std.specs.Bool.{OnTrue};
-ghost use Rattle.sms_record.specs.Entry.{accept_octets};
+ghost use Rattle.gate_entries.specs.Entry.{accept_octets};
 ghost use Rattle.gate_model.specs.Acceptor.{MayBeHanded};
 ghost use Rattle.store_journal.specs.Area.{stands};
 ghost use Rattle.store_journal.specs.Journal.{IsKept, HoldsMore, IsHandedOut};
-ghost use Rattle.sms_record.specs.declared.entry.accept.Accept.{Accept};
+ghost use Rattle.gate_entries.specs.declared.accept.Accept.{Accept};
 ghost use Rattle.gate_store.specs.Accepts.{StandsFor};
 ghost use Rattle.gate_store.specs.Deeds.{Does, CountsFault, is_by_disk};
 ghost use Rattle.gate_store.specs.Store.{IsStore, IsOpen, IsOpened, IsUnopened, disk_in, is_store_broken};
@@ -17,10 +17,10 @@ mod entries;
 
 use crate::StoreFault;
 use entries::load;
+use gate_entries::{Accept, write_accept};
 use gate_model::{Acceptor, Refusal, Reply, Totals};
 use kn_base::{Items, Memory, Octets, raised};
 use sms_record::Sms;
-use sms_record::entry::{Accept, write_accept};
 use std::alloc::Global;
 use store_disk::{Disk, DiskFailed};
 use store_journal::{Journal, OpenFault};

@@ -5,7 +5,7 @@ use Rattle.sms_record.specs.declared.address.Address.{Address}
 use Rattle.sms_record.specs.declared.address.Address.TheVariants.{Number, Text}
 use Rattle.sms_record.specs.declared.sms.Sms.{Sms}
 use Rattle.sms_record.specs.Record.{IsAddress, IsSms, address, short, long, marks, times, heading, names, contents, sms_octets}
-use Rattle.sms_record.specs.Entry.{accept_size}
+use Rattle.gate_entries.specs.Entry.{accept_size}
 use Rattle.gate_model.specs.Acceptor.{MayBeHanded}
 
 length-address : (a : Address) → IsAddress a → length (address a) ≤ 66

@@ -5,9 +5,9 @@ ghost use Rattle.store_journal.specs.Journal.{IsJournal, left, birth_of};
 ghost use Rattle.gate_store.specs.StoreSteps.{CountsIn, Loads, LoadsNone};
 
 use crate::{Store, StoreFault};
+use gate_entries::read_accept;
 use kn_base::{Memory, Octets, raised};
 use sms_record::RecordFault;
-use sms_record::entry::read_accept;
 use std::alloc::Global;
 use store_disk::Disk;
 use store_journal::Journal;

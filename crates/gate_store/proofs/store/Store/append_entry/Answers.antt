@@ -1,5 +1,5 @@
 use Rattle.std.proofs.Common.{◌≡◌, ℕ, List, [], ◌∷◌, ◌++◌, ap, ◌∙◌, subst}
-use Rattle.sms_record.specs.Entry.{accept_octets}
+use Rattle.gate_entries.specs.Entry.{accept_octets}
 use Rattle.store_journal.specs.Journal.{IsJournal, reserved}
 use Rattle.gate_store.proofs.store.Store.append_entry.Goals as goal
 
