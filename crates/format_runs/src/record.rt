@@ -3,9 +3,9 @@
 ghost use Rattle.sms_record.specs.Record.{IsSms};
 
 use exact_octets::RecordFault;
+use gate_entries::{read_accept, write_accept};
 use kn_base::{Memory, Octets, write_hex};
 use line_cases::{cut_at, number, octet, octets_of, put_named, put_text};
-use sms_record::entry::{read_accept, write_accept};
 use sms_record::header::{element_at, header_count_at};
 use sms_record::{Sms, copy_sms, read_sms, write_sms};
 use std::alloc::Global;

@@ -22,6 +22,6 @@ pub use form::{Form, read_form};
 pub use handling::Handling;
 pub use manner::Manner;
 pub use pairs::{Pair, read_pairs, value};
-pub use parties::{Parties, copy_address};
+pub use parties::Parties;
 pub use text::body_of;
 pub use tracking::Tracking;

@@ -12,7 +12,7 @@ use config_groups::User;
 use config_values::{Grammar, holds, sender_of};
 use http_text::{Answer, Spot};
 use kn_base::{Items, Memory, Octets};
-use sms_record::Address;
+use sms_record::{Address, copy_address};
 use std::alloc::Global;
 
 /// The most receivers of a request.
@@ -161,24 +161,5 @@ fn copy_sender(alloc: Global, sender: &Option<Address>) -> Result<Option<Address
     match sender {
         Some(sender) => Ok(Some(copy_address(alloc, sender)?)),
         None => Ok(None),
-    }
-}
-
-/// An equal address, in memory of its own.
-///
-/// # Errors
-/// `Memory`.
-pub fn copy_address(alloc: Global, address: &Address) -> Result<Address, Memory>
-    ensures copy { IfOk result (λ copy. copy ≡ address.now) }
-{
-    match address {
-        Address::Number { plus, digits } => {
-            let digits = Octets::from_slice(alloc, digits.as_slice())?;
-            Ok(Address::Number {
-                plus: *plus,
-                digits,
-            })
-        }
-        Address::Text(text) => Ok(Address::Text(Octets::from_slice(alloc, text.as_slice())?)),
     }
 }

@@ -21,7 +21,7 @@ use Rattle.sms_record.specs.declared.coding.Coding.{Coding}
 use Rattle.sms_record.specs.declared.coding.Coding.TheVariants.{Seven, Eight, Ucs2}
 use Rattle.sms_record.specs.declared.sms.Sms.{Sms}
 use Rattle.sms_record.specs.Record.{IsAddress, IsSms, address, short, long, marks, times, heading, names, contents, sms_octets}
-use Rattle.sms_record.specs.Entry.{accept_size}
+use Rattle.gate_entries.specs.Entry.{accept_size}
 
 -- ---- how long a record of one part is
 

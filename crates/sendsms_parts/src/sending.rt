@@ -14,8 +14,8 @@ use concat_split::{Part, SplitFault, split};
 use config_groups::User;
 use http_text::{Answer, Spot};
 use kn_base::{Items, Memory, Octets};
-use sendsms_form::{Form, Parties, copy_address};
-use sms_record::{Address, Sms, copy_sms};
+use sendsms_form::{Form, Parties};
+use sms_record::{Address, Sms, copy_address, copy_sms};
 use std::alloc::Global;
 
 /// The messages that a user's form asks for, at the reading `now` of the clock in Unix seconds: the parts to the first receiver, then those to

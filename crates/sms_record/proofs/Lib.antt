@@ -2,5 +2,4 @@ pub mod Headers
 pub mod Udh
 pub mod Addresses
 pub mod Messages
-pub mod Entries
 pub mod Alone

@@ -5,8 +5,6 @@ pub use Rattle.exact_octets.specs.Reading
 pub mod Header
 pub mod Codes
 pub mod Record
-pub mod Entry
 pub mod Room
 pub mod HeaderReading
 pub mod RecordReading
-pub mod EntryReading

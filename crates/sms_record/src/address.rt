@@ -83,9 +83,12 @@ pub(crate) fn put_address(into: &mut Octets, from_or_to: &Address) -> Result<(),
     }
 }
 
-/// An equal address.
-pub(crate) fn copy_address(alloc: Global, address: &Address) -> Result<Address, Memory>
-    ensures { IfOk result (λ copy. copy ≡ address.now) }
+/// An equal address, in memory of its own.
+///
+/// # Errors
+/// `Memory`.
+pub fn copy_address(alloc: Global, address: &Address) -> Result<Address, Memory>
+    ensures copy { IfOk result (λ copy. copy ≡ address.now) }
 {
     match address {
         Address::Number { plus, digits } => {

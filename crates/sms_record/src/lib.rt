@@ -1,8 +1,8 @@
 //! One short message with all that the gateway keeps of it, and the octets that it is kept as.
 //!
 //! `Sms` is the message: from whom (`Address`), how its body is coded (`Coding`), which reports are asked for (`Kind`).
-//! Its octets are its record; messages that were taken together are an entry of the journal (`entry`). `header` reads the
-//! user data header, a message's own and any other.
+//! Its octets are its record, which `read_sms` and `write_sms` know alone, and `sms_at` and `put_sms` among other things. `header` reads
+//! the user data header, a message's own and any other.
 //!
 //! The one contract: a record reads back, whatever octets follow it. What is read is spelled so, octet for octet, and
 //! each `RecordFault` says exactly what the octets are: a proper front of a record, or octets that go wrong at a place.
@@ -10,14 +10,13 @@
 
 mod address;
 mod coding;
-pub mod entry;
 pub mod header;
 mod kind;
 pub mod limits;
 mod record;
 mod sms;
 
-pub use address::Address;
+pub use address::{Address, copy_address};
 pub use coding::Coding;
 pub use exact_octets::RecordFault;
 pub use kind::Kind;

@@ -1,4 +1,4 @@
-//! The limits of a record's fields and of an entry (docs/FORMATS.md, "Records", "Entries").
+//! The limits of a record's fields (docs/FORMATS.md, "Records").
 
 /// Digits of a number (ITU-T E.164, section 6).
 pub const MOST_DIGITS: u8 = 15;
@@ -22,5 +22,3 @@ pub const MOST_BODY: u64 = 2_048;
 pub const MOST_NAME: u8 = 64;
 /// Octets of a URL.
 pub const MOST_URL: u64 = 2_048;
-/// Messages of one entry.
-pub const MOST_MESSAGES: u64 = 5_000;
