@@ -1,4 +1,6 @@
+pub mod FatesLaws
 pub mod FlightLemmas
+pub mod LoadingLemmas
 pub mod NextLemmas
 pub mod NumberLemmas
 pub mod OrderLemmas

@@ -7,7 +7,7 @@ use Rattle.numbered_table.specs.Pairs.{value_under, without, with_value, AllBelo
 use Rattle.gate_model.specs.Numbers.{Has, with_change, with_changes, numbered_from, Rise}
 
 -- a number is this one, or another
-by_number : (P : Bool → Type 0) (a b : ℕ) → (a ≡ b → P true) → (a ≢ b → P false) → P (a == b)
+pub by_number : (P : Bool → Type 0) (a b : ℕ) → (a ≡ b → P true) → (a ≢ b → P false) → P (a == b)
 by_number P a b same other =
     ⊎_elim (λ (e : a ≡ b). subst P (sym (eq-eqb a b e)) (same e)) (λ (ne : a ≢ b). subst P (sym (ne_eqb a b ne)) (other ne)) (cases_eq a b)
 

@@ -214,3 +214,8 @@ length-flights rules flight state whole = ap length whole.flights ∙ length-map
     length-map-range : (f : ℕ → ℕ) (a n : ℕ) → length (map f (range_with_len a n)) ≡ n
     length-map-range f a zero = refl
     length-map-range f a (suc n) = ap suc (length-map-range f (a + 1) n)
+
+-- whatever is that state is whole
+pub whole-new : (rules : Rules) (flight : List ℕ) (state : State) (links : ℕ) → flight ≡ replicate links 0 → state ≡ empty links → length rules.links ≡ links → links < 2 ^ 32 → IsWhole rules flight state
+whole-new rules flight state links none holds are few =
+    subst (λ f. IsWhole rules f state) (sym none) (subst (IsWhole rules (replicate links 0)) (sym holds) (whole-empty rules links are few))

@@ -76,17 +76,6 @@ pub record KeepsAll (old new : Gate) : Type 0 where
 abbrev pub lease_under : (message : ℕ) → List (ℕ × Waiting) → Option ℕ
 lease_under message waiting = option_and_then (λ w. w.lease) (value_under message waiting)
 
--- the messages that an entry brings
-abbrev pub parts_of : Recorded → List Sms
-parts_of (entry.Accept accept) = accept.parts
-parts_of (entry.Acked acked) = []
-parts_of (entry.Rejected rejected) = []
-parts_of (entry.Reported reported) = []
-parts_of (entry.Arrived arrived) = []
-parts_of (entry.Answered answered) = answered.parts
-parts_of (entry.Called called) = []
-parts_of (entry.CallDropped dropped) = []
-
 -- a gate has the memory that an entry needs
 abbrev pub HasRoom : Gate → Recorded → Type 0
 HasRoom gate (entry.Accept accept) = length accept.parts ≤ gate.waiting.room

@@ -1,7 +1,7 @@
 -- Which entries may happen to a state, and which of them are refused.
-use Rattle.std.specs.Prelude.{◌≡◌, ◌≢◌, ℕ, Bool, ◌+◌, ◌*◌, ◌<◌, ◌≤◌, ◌^◌, nat_lt, ◌&&◌, not, ◌==◌, List, [], ◌∷◌, length, All, Option, Some, None, IsSomeAnd, IsTrue, IsFalse, slice_get, position, if◌then◌else◌, true, false, ⊤}
-use Rattle.std.specs.List.{list_any}
-use Rattle.std.specs.Option.{option_or, option_map}
+use Rattle.std.specs.Prelude.{◌≡◌, ◌≢◌, ℕ, Bool, ◌+◌, ◌*◌, ◌<◌, ◌≤◌, ◌^◌, nat_lt, nat_le, ◌&&◌, not, ◌==◌, List, [], ◌∷◌, length, All, Option, Some, None, IsSomeAnd, IsTrue, IsFalse, slice_get, position, if◌then◌else◌, true, false, ⊤}
+use Rattle.std.specs.List.{list_any, list_all}
+use Rattle.std.specs.Option.{option_or, option_map, option_map_or}
 use Rattle.sms_record.specs.declared.sms.Sms.{Sms}
 use Rattle.route_rules.specs.declared.rules.Rules.{Rules}
 use Rattle.route_rules.specs.Routes.{routable}
@@ -17,7 +17,7 @@ use Rattle.gate_entries.specs.declared.passing.Passing.TheVariants.{Up, Down, To
 use Rattle.gate_model.specs.declared.reply.Refusal.{Refusal}
 use Rattle.gate_model.specs.declared.reply.Refusal.TheVariants.{NoRoute, Full}
 use Rattle.gate_model.specs.declared.waiting.Waiting.{Waiting}
-use Rattle.gate_model.specs.Numbers.{Has, value_under}
+use Rattle.gate_model.specs.Numbers.{is_held, value_under}
 use Rattle.gate_model.specs.State.{State, Job, flight}
 use Rattle.gate_model.specs.Fold.{Entry, recorded, passing}
 use Rattle.gate_model.specs.Routing.{due_time, link_for}
@@ -25,41 +25,41 @@ use Rattle.gate_model.specs.Routing.{due_time, link_for}
 -- ---- sound: what is asked of an entry that a store kept
 
 -- a reading of the clock
-abbrev pub IsTime : ℕ → Type 0
-IsTime time = time < 2 ^ 37
+abbrev pub is_time : ℕ → Bool
+is_time time = nat_lt time (2 ^ 37)
 
 -- a message is no longer worth sending, if an end was asked for
-abbrev pub HasExpired : (time : ℕ) → Waiting → Type 0
-HasExpired time waiting = (1 ≤ waiting.sms.validity) × (waiting.sms.time + 60 * waiting.sms.validity ≤ time)
+abbrev pub has_expired : (time : ℕ) → Waiting → Bool
+has_expired time waiting = nat_le 1 waiting.sms.validity && nat_le (waiting.sms.time + 60 * waiting.sms.validity) time
 
 -- no number stands twice
-abbrev pub AreDistinct : List ℕ → Type 0
-AreDistinct [] = ⊤
-AreDistinct (number ∷ numbers) = IsFalse (list_any (λ other. other == number) numbers) × AreDistinct numbers
+abbrev pub are_distinct : List ℕ → Bool
+are_distinct [] = true
+are_distinct (number ∷ numbers) = not (list_any (λ other. other == number) numbers) && are_distinct numbers
 
 -- distinct arrivals that are held
-abbrev pub AreArrivals : State → (arrivals : List ℕ) → Type 0
-AreArrivals state arrivals = All (Has state.arrivals) arrivals × AreDistinct arrivals
+abbrev pub are_arrivals : State → (arrivals : List ℕ) → Bool
+are_arrivals state arrivals = list_all (λ arrival. is_held arrival state.arrivals) arrivals && are_distinct arrivals
 
--- a message that waits, where the cause of its end asks for no more
-abbrev pub MayEnd : State → (message time : ℕ) → Cause → Type 0
-MayEnd state message time (Centre code) = Has state.waiting message
-MayEnd state message time Expired = IsSomeAnd (value_under message state.waiting) (HasExpired time)
+-- a message waits, and the cause of its end has come
+abbrev pub may_end : State → (message time : ℕ) → Cause → Bool
+may_end state message time (Centre code) = is_held message state.waiting
+may_end state message time Expired = option_map_or (has_expired time) (value_under message state.waiting) false
 
 -- an entry suits a state: it names what the state holds, at a reading of the clock
-abbrev pub Suits : State → Recorded → Type 0
-Suits state (entry.Accept accept) = IsTime accept.time
-Suits state (entry.Acked acked) = Has state.waiting acked.message × IsTime acked.time
-Suits state (entry.Rejected rejected) = MayEnd state rejected.message rejected.time rejected.cause × IsTime rejected.time
-Suits state (entry.Reported reported) = IsTime reported.time
-Suits state (entry.Arrived arrived) = ⊤
-Suits state (entry.Answered answered) = AreArrivals state answered.arrivals × IsTime answered.time
-Suits state (entry.Called called) = Has state.jobs called.job
-Suits state (entry.CallDropped dropped) = Has state.jobs dropped.job
+abbrev pub suits : State → Recorded → Bool
+suits state (entry.Accept accept) = is_time accept.time
+suits state (entry.Acked acked) = is_held acked.message state.waiting && is_time acked.time
+suits state (entry.Rejected rejected) = may_end state rejected.message rejected.time rejected.cause && is_time rejected.time
+suits state (entry.Reported reported) = is_time reported.time
+suits state (entry.Arrived arrived) = true
+suits state (entry.Answered answered) = are_arrivals state answered.arrivals && is_time answered.time
+suits state (entry.Called called) = is_held called.job state.jobs
+suits state (entry.CallDropped dropped) = is_held dropped.job state.jobs
 
 -- sound: an entry of the grammar, which has the counts and the lengths, that suits the state
 abbrev pub IsSound : State → Recorded → Type 0
-IsSound state kept = IsEntry kept × Suits state kept
+IsSound state kept = IsEntry kept × IsTrue (suits state kept)
 
 -- ---- lawful: what is asked of an entry that happens
 
@@ -107,7 +107,7 @@ MayTake rules state link now waiting = (waiting.lease ≡ None) × (due_time wai
 abbrev pub MayPass : Rules → State → Passing → Type 0
 MayPass rules state (Up link) = slice_get state.up link ≡ Some false
 MayPass rules state (Down link) = (slice_get state.up link ≡ Some true) × (flight state link ≡ 0)
-MayPass rules state (Took link message time) = IsSomeAnd (value_under message state.waiting) (MayTake rules state link time) × IsTime time
+MayPass rules state (Took link message time) = IsSomeAnd (value_under message state.waiting) (MayTake rules state link time) × IsTrue (is_time time)
 MayPass rules state (Returned message) = IsLeased state message
 MayPass rules state (TookJob job) = IsJob false state job
 MayPass rules state (ReturnedJob job) = IsJob true state job

@@ -8,6 +8,7 @@ pub mod Reply
 pub mod Routing
 pub mod Links
 pub mod NextSteps
+pub mod Loading
 pub mod Numbers
 pub mod Settling
 pub mod State

@@ -1,8 +1,12 @@
 -- Pairs of a number and a value in the order of their numbers, as a table keeps them: what is changed in them.
-use Rattle.std.specs.Prelude.{ℕ, ◌+◌, ◌<◌, ◌≤◌, ◌==◌, List, [], ◌∷◌, map, IsSome, if◌then◌else◌, ⊤}
+use Rattle.std.specs.Prelude.{ℕ, ◌+◌, ◌<◌, ◌≤◌, ◌==◌, List, [], ◌∷◌, map, Bool, is_some, IsSome, if◌then◌else◌, ⊤}
 pub use Rattle.numbered_table.specs.Pairs.{value_under, without, AllBelow, IsAscending}
 
--- there is a value under this number
+-- whether there is a value under this number
+abbrev pub is_held : {T : Type 0} → (number : ℕ) → List (ℕ × T) → Bool
+is_held number pairs = is_some (value_under number pairs)
+
+-- there is
 abbrev pub Has : {T : Type 0} → List (ℕ × T) → (number : ℕ) → Type 0
 Has pairs number = IsSome (value_under number pairs)
 

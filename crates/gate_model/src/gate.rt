@@ -12,6 +12,7 @@ mod messages;
 mod next;
 mod passing;
 mod recording;
+mod soundness;
 
 use crate::counts::Counts;
 use crate::{Arrival, Totals, Waiting};

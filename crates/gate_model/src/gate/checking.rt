@@ -4,7 +4,8 @@ ghost use Rattle.std.specs.Prelude.{◌≡◌, ◌<◌, ◌^◌, length, not, po
 ghost use Rattle.std.specs.Result.{result_err};
 ghost use Rattle.std.specs.Option.{option_or};
 ghost use Rattle.route_rules.specs.Routes.{routable as is_routable};
-ghost use Rattle.gate_model.specs.Gate.{model_of, rules_of, parts_of};
+ghost use Rattle.gate_entries.specs.Size.{parts_of};
+ghost use Rattle.gate_model.specs.Gate.{model_of, rules_of};
 ghost use Rattle.gate_model.specs.Lawful.{refusal, refused_parts, past_queue, past_arrivals, past_entries, most_entries};
 
 use crate::{Gate, Refusal};
