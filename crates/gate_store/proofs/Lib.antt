@@ -1,4 +1,5 @@
 pub mod Commits
+pub mod Handed
 pub mod Loading
 pub mod Opening
 pub mod Recording

@@ -92,7 +92,7 @@ module _ {D : Type 0} (tells : Bool) (contents : D → Areas) (faults : D → �
   -- an entry that wasn't appended
   pub unappended : (old new : Store D) (kept : Recorded) (why : Refusal) → is_store_broken old ≡ false → new ≡ record old { journal = new.journal }
       → RefusesAppend tells contents old.journal new.journal why → IsHandedOut new.journal → refusal (rules_in old) (state_in old) kept ≡ None
-      → is_store_broken new ≡ is_by_disk {Reply} (Err why) → CountsFault (is_by_disk {Reply} (Err why)) (faults (disk_in old)) (faults (disk_in new))
+      → is_store_broken new ≡ is_by_disk {T = Reply} (Err why) → CountsFault (is_by_disk {T = Reply} (Err why)) (faults (disk_in old)) (faults (disk_in new))
       → Performs tells contents faults old kept (Err why) new
   unappended old new kept (NoRoute part) whole same refuses handed taken broken counted = absurd refuses
   unappended old new kept (Full held limit) whole same refuses handed taken broken counted = absurd refuses

@@ -58,7 +58,7 @@ named rules state (entry.Called called) = named_entries state
 named rules state (entry.CallDropped dropped) = named_entries state
 
 by_name : (rules : Rules) (state : State) (kept : Recorded) (why : Refusal) → IsNamed why → refusal rules state kept ≡ Some why
-    → IsReason rules state kept (Err why) × (is_by_disk {Reply} (Err why) ≡ false)
+    → IsReason rules state kept (Err why) × (is_by_disk {T = Reply} (Err why) ≡ false)
 by_name rules state kept (NoRoute part) n is = (is, refl)
 by_name rules state kept (Full held limit) n is = (is, refl)
 by_name rules state kept Disk n is = absurd n
@@ -66,7 +66,7 @@ by_name rules state kept Memory n is = absurd n
 
 -- what a model refuses is the reason of an outcome that isn't by the disk
 pub reason_named : (rules : Rules) (state : State) (kept : Recorded) (why : Refusal) → refusal rules state kept ≡ Some why
-    → IsReason rules state kept (Err why) × (is_by_disk {Reply} (Err why) ≡ false)
+    → IsReason rules state kept (Err why) × (is_by_disk {T = Reply} (Err why) ≡ false)
 reason_named rules state kept why is =
     by_name rules state kept why (subst (λ o. IfSome o IsNamed) is (named rules state kept)) is
 

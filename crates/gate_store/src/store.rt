@@ -1,6 +1,6 @@
 //! The store that keeps messages: entries in a journal, and the gate that they make.
 
-ghost use Rattle.std.specs.Prelude.{◌≡◌, ◌<◌, ◌^◌, ◌∷◌, [], List, ℕ, None, IfOk, IfErr, OnOk, OnErr, length};
+ghost use Rattle.std.specs.Prelude.{◌≡◌, ◌<◌, ◌≤◌, ◌^◌, ◌∷◌, [], List, ℕ, None, IfOk, IfErr, OnOk, OnErr, length};
 ghost use Rattle.std.specs.Bool.{OnTrue};
 ghost use Rattle.gate_entries.specs.Entry.{IsEntry, entry_octets};
 ghost use Rattle.gate_entries.specs.declared.recorded.Recorded.{Recorded};
@@ -113,7 +113,7 @@ impl<D: Disk> Store<D> {
     fn append_entry(&mut self, entry: &Recorded) -> Result<(), Refusal>
         requires kept { IsKept D.tells D.contents self.old.journal }
         requires handed_out { IsHandedOut self.old.journal }
-        requires entry { IsEntry entry.now }
+        requires is_entry { IsEntry entry.now }
         requires small { length (entry_octets entry.now) ≤ most_payload }
         ensures same { self.new ≡ record self.old { journal = self.new.journal } }
         ensures ok { OnOk result (HoldsMore D.tells D.contents self.old.journal self.new.journal (entry_octets entry.now ∷ [])) }
