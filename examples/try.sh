@@ -33,6 +33,7 @@ tries gate.conf two-in-one-connection.http "202 keep-alive $queued; 202 close $q
 tries full.conf two-in-one-connection.http "202 keep-alive $queued; 503 close Temporal failure, try again later."
 tries long.conf hello.http "202 close $queued"
 tries long.conf shop.http "202 close $queued"
+tries long.conf no-route.http '403 close Not routable. Do not try again.'
 tries gate.conf wrong-password.http '403 close Authorization failed for sendsms'
 tries gate.conf unknown-path.http '404 close Unknown path.'
 tries gate.conf wrong-method.http '400 close Bad request: method'
