@@ -182,9 +182,10 @@ numbered_fit : (coding : Coding) (udh header total k : ℕ) (limits : Limits) (t
     → AllByRecursion (Fit coding (cap coding header)) ts → AllByRecursion (IsPart coding udh limits) (numbered total k ts)
 numbered_fit coding udh header total k limits [] le short some among few f = tt
 numbered_fit coding udh header total k limits (t ∷ ts) le short some among few f =
-    let one : k + suc (length ts) ≤ total + 1 = among in
-    (part_fits coding udh header total k limits t le short f.0 some (omega arith) few,
-      numbered_fit coding udh header total (k + 1) limits ts le short (omega arith) (omega arith) few f.1)
+    let one : k + suc (length ts) ≤ total + 1 = among in (
+      part_fits coding udh header total k limits t le short f.0 some (omega arith) few,
+      numbered_fit coding udh header total (k + 1) limits ts le short (omega arith) (omega arith) few f.1,
+    )
 
 alone_fit : (coding : Coding) (udh header : ℕ) (limits : Limits) (ts : List (List ℕ)) → udh ≤ header → header ≤ 140 → 1 ≤ limits.parts
     → AllByRecursion (Fit coding (cap coding header)) ts → AllByRecursion (IsPart coding udh limits) (alone ts)

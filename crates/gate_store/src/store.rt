@@ -42,7 +42,12 @@ impl<D: Disk> Store<D> {
     ///
     /// `Foreign` where what the disk holds is no store, `Disk` exactly where a disk call failed, `Memory` where there was none. Each
     /// fault gives the disk back; unless it is `Disk`, nothing that was stored is lost.
-    pub fn open(alloc: Global, disk: D, rules: Rules, birth: u64) -> Result<Store<D>, (D, StoreFault)>
+    pub fn open(
+        alloc: Global,
+        disk: D,
+        rules: Rules,
+        birth: u64,
+    ) -> Result<Store<D>, (D, StoreFault)>
         requires few_links { length rules.links < 2 ^ 32 }
         ensures ok { IfOk result (IsOpened D.tells D.contents D.faults (D.contents disk) (D.faults disk) rules birth) }
         ensures err { IfErr result (λ fault. IsUnopened D.tells D.contents D.faults (D.contents disk) (D.faults disk) rules birth fault.0 fault.1) }

@@ -69,9 +69,9 @@ receivers_are : (given : List ℕ) → IfSome (receivers_of given) AreReceivers
 receivers_are given =
     tested (are_receivers given) (map number (words given)) AreReceivers
     (λ is.
-      let parts = and_parts _ _ is in
-      let bounds = forms.within 1 50 (length (words given)) parts.0 in
-      (subst (IsWithin 1 50) (sym (length-numbers (words given))) bounds, each_receiver (words given) parts.1))
+    let parts = and_parts _ _ is in
+    let bounds = forms.within 1 50 (length (words given)) parts.0 in
+    (subst (IsWithin 1 50) (sym (length-numbers (words given))) bounds, each_receiver (words given) parts.1))
 
 unless_own : (own common : Option Address) → IfSome own IsSender → IfSome common IsSender → IfSome (option_or own common) IsSender
 unless_own (Some own) common o c = o
@@ -264,14 +264,14 @@ unfolding form_of parties_of manner_of handling_of tracking_of
 form_within user common given form u c is =
     all_in (parties_of user common given) (manner_of given) (handling_of user given) (tracking_of given) (value (codes "text") given) form
     (λ x e. parties_are (receivers_of (value (codes "to") given)) (sender_by user.faked_sender (value (codes "from") given) user.default_sender common) x
-      (receivers_are (value (codes "to") given))
-      (sender_is user.faked_sender (value (codes "from") given) user.default_sender common u.faked_sender u.default_sender c) e)
+    (receivers_are (value (codes "to") given))
+    (sender_is user.faked_sender (value (codes "from") given) user.default_sender common u.faked_sender u.default_sender c) e)
     (λ x e. manner_in_is (coding_of (value (codes "coding") given) (value (codes "udh") given)) given x e)
     (λ x e. handling_is (smsc_by user.forced_smsc (value (codes "smsc") given) user.default_smsc) (number_in 1 43200 (value (codes "validity") given))
-      (number_in 0 43200 (value (codes "deferred") given)) x
-      (smsc_is user.forced_smsc (value (codes "smsc") given) user.default_smsc u.forced_smsc u.default_smsc)
-      (number_is 1 43200 (value (codes "validity") given)) (number_is 0 43200 (value (codes "deferred") given)) e)
+    (number_in 0 43200 (value (codes "deferred") given)) x
+    (smsc_is user.forced_smsc (value (codes "smsc") given) user.default_smsc u.forced_smsc u.default_smsc)
+    (number_is 1 43200 (value (codes "validity") given)) (number_is 0 43200 (value (codes "deferred") given)) e)
     (λ x e. tracking_is (number_in 0 31 (value (codes "dlr-mask") given)) (octets_of 2048 (value (codes "dlr-url") given))
-      (octets_of 64 (value (codes "account") given)) x
-      (number_is 0 31 (value (codes "dlr-mask") given)) (octets_are 2048 (value (codes "dlr-url") given)) (octets_are 64 (value (codes "account") given)) e)
+    (octets_of 64 (value (codes "account") given)) x
+    (number_is 0 31 (value (codes "dlr-mask") given)) (octets_are 2048 (value (codes "dlr-url") given)) (octets_are 64 (value (codes "account") given)) e)
     is

@@ -60,7 +60,13 @@ fn asked_of(alloc: Global, settings: &Settings, query: &[u8], now: u64) -> Resul
 {
     let pairs = read_pairs(alloc, query)?;
     match user_of(settings.users.as_slice(), pairs.as_slice()) {
-        Some(user) => asked_by(alloc, user, &settings.smsbox.global_sender, pairs.as_slice(), now),
+        Some(user) => asked_by(
+            alloc,
+            user,
+            &settings.smsbox.global_sender,
+            pairs.as_slice(),
+            now,
+        ),
         None => Err(Answer::Unauthorized),
     }
 }

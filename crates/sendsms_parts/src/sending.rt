@@ -48,7 +48,13 @@ fn parts_of(alloc: Global, user: &User, form: &Form) -> Result<Vec<Part>, Answer
 {
     let coding = form.manner.coding;
     let limits = limits_of(alloc, user, coding)?;
-    match split(alloc, form.body.as_slice(), coding, form.manner.udh.len(), &limits) {
+    match split(
+        alloc,
+        form.body.as_slice(),
+        coding,
+        form.manner.udh.len(),
+        &limits,
+    ) {
         Ok(parts) => Ok(parts),
         Err(SplitFault::NoRoom { .. }) => Err(Answer::BadRequest(Spot::Text)),
         Err(SplitFault::Memory) => Err(Answer::OutOfMemory),
