@@ -197,7 +197,7 @@ module _
   -- what the command comes to where counts were printed
   shows_by : (disk : Option D) (fault : Option OutputFault)
       → IsConfigured files shelf_faults name old.shelf new.shelf settings
-      → IsShown tells contents faults (before.disks settings.core.store_file) before.word (course old.output) (course new.output) disk fault
+      → IsShown tells contents faults (before.disks settings.core.store_file) before.word settings.rules (course old.output) (course new.output) disk fault
       → ComesToShow course files shelf_faults tells contents faults name old new before disk (option_map Output fault)
   shows_by disk None configured shown = record { settings = settings; configured = configured; shown = shown }
   shows_by disk (Some fault) configured shown = record { settings = settings; configured = configured; shown = shown }
