@@ -6,4 +6,5 @@ pub mod NumberLemmas
 pub mod OrderLemmas
 pub mod PutLemmas
 pub mod SettlingLaws
+pub mod TakeLemmas
 pub mod WholeLemmas
