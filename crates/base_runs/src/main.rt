@@ -12,6 +12,7 @@ mod journal;
 mod lists;
 mod machine;
 mod memory_forms;
+mod tables;
 
 use disks::HostDisks;
 use kn_base::{Memory, Octets};
@@ -64,7 +65,7 @@ fn put_case<R: Runtime + Files<File = File> + Alloc + Copy>(
     }
 }
 
-/// `value decimal`, `value hex`, `value octets`, `value items`, `value calls`, `value raised`.
+/// `value decimal`, `value hex`, `value octets`, `value items`, `value calls`, `value table`, `value raised`.
 fn put_value(alloc: Global, text: &[u8], report: &mut Octets) -> Result<(), Memory> {
     let (kind, text) = cut_at(text, b' ');
     if kind == b"decimal".as_slice() {
@@ -77,6 +78,8 @@ fn put_value(alloc: Global, text: &[u8], report: &mut Octets) -> Result<(), Memo
         lists::put_items(alloc, text, report)
     } else if kind == b"calls".as_slice() {
         lists::put_all_calls(alloc, text, report)
+    } else if kind == b"table".as_slice() {
+        tables::put_table(alloc, text, report)
     } else {
         lists::put_raised(text, report)
     }
