@@ -1,6 +1,6 @@
 -- The law of fates: no message ends twice, one that is known is stored exactly where it waits, and all are counted.
-use Rattle.std.proofs.Common.{◌≡◌, ◌≢◌, refl, sym, ap, ◌∙◌, subst, ℕ, ◌+◌, ◌≤◌, ◌<◌, ◌==◌, Bool, true, false, not, cond, List, [], ◌∷◌, ◌++◌, length, map, Option, Some, None, arith, length-append, sum_by, count_by, ne_eqb, eq-eqb, eqb-true, ◌⊎◌, inl, inr, ⊎_elim, ◌&&◌}
-use Rattle.std.specs.Prelude.{IsSome, IsTrue, is_some, ◌↔◌}
+use Rattle.std.proofs.Common.{◌≡◌, ◌≢◌, refl, sym, ap, ◌∙◌, subst, ℕ, ◌+◌, ◌≤◌, ◌<◌, ◌==◌, Bool, true, false, not, cond, List, [], ◌∷◌, ◌++◌, length, map, Option, Some, None, arith, length-append, count_by, ne_eqb, ◌⊎◌, inl, inr, ⊎_elim}
+use Rattle.std.specs.Prelude.{is_some, ◌↔◌}
 use Rattle.std.specs.Option.{option_map_or}
 use Rattle.std.proofs.lemmas.List.{length-map}
 use Rattle.std.proofs.lemmas.List.Sums.{sum_by-cons}
@@ -14,12 +14,12 @@ use Rattle.gate_entries.specs.declared.recorded.Recorded.TheVariants as entry
 use Rattle.gate_entries.specs.declared.passing.Passing.{Passing}
 use Rattle.gate_entries.specs.declared.passing.Passing.TheVariants.{Up, Down, Took, Returned, TookJob, ReturnedJob, TookArrival, ReturnedArrival}
 use Rattle.sms_record.specs.declared.kind.Kind.{Kind}
-use Rattle.gate_model.specs.Numbers.{Has, Rise, is_held, value_under, without, with_change, numbered_from}
+use Rattle.gate_model.specs.Numbers.{Rise, is_held, value_under, without, with_change, numbered_from}
 use Rattle.gate_model.specs.State.{State, Awaited, IsInOrder}
 use Rattle.gate_model.specs.Fold.{Entry, recorded, passing, keeps, passes, does, after, accepts, answers, hears, unleased, is_last, without_oldest}
 use Rattle.gate_model.specs.Lawful.{IsLawful, suits, may_end, has_expired}
-use Rattle.gate_model.specs.Fates.{AreLawful, Fate, taken, given_up, stored, fate, ended_by, is_end_of, IsCounted, IsKnown, HaveFates}
-use Rattle.gate_model.proofs.NumberLemmas.{by_number, length-without, length-numbered_from, value_under-before, Rise-wider}
+use Rattle.gate_model.specs.Fates.{AreLawful, Fate, taken, given_up, stored, fate, ended_by, is_end_of, IsCounted, HaveFates}
+use Rattle.gate_model.proofs.NumberLemmas.{by_number, length-without, length-numbered_from}
 use Rattle.gate_model.proofs.OrderLemmas.{IsInOrder-does}
 use Rattle.gate_model.proofs.WholeLemmas.{some_value}
 

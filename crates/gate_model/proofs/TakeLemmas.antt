@@ -1,15 +1,15 @@
 -- What comes next may be taken.
-use Rattle.std.proofs.Common.{◌≡◌, ◌≢◌, refl, sym, ap, ◌∙◌, subst, ℕ, ◌+◌, ◌≤◌, ◌<◌, ◌==◌, Bool, true, false, cond, List, [], ◌∷◌, Option, Some, None, arith, leb-true, eqb-true, eq-eqb, ne_eqb, ⊎_elim, ◌&&◌}
-use Rattle.std.specs.Prelude.{find, option_map, IsSomeAnd, is_none, is_some, IsTrue}
+use Rattle.std.proofs.Common.{◌≡◌, ◌≢◌, refl, sym, ap, ◌∙◌, subst, ℕ, ◌+◌, Bool, true, false, cond, List, [], ◌∷◌, Option, Some, None, arith, leb-true, eqb-true, eq-eqb, ne_eqb}
+use Rattle.std.specs.Prelude.{find, option_map, IsSomeAnd, is_none, is_some}
 use Rattle.std.specs.Option.{option_and_then}
 use Rattle.std.proofs.lemmas.Bool.{and_parts}
 use Rattle.route_rules.specs.declared.rules.Rules.{Rules}
 use Rattle.gate_entries.specs.declared.passing.Passing.TheVariants.{Took, Returned}
 use Rattle.gate_model.specs.declared.waiting.Waiting.{Waiting}
 use Rattle.gate_model.specs.Gate.{is_leased}
-use Rattle.gate_model.specs.Lawful.{MayPass, MayTake, is_time, IsLeased}
+use Rattle.gate_model.specs.Lawful.{MayPass, MayTake, is_time}
 use Rattle.gate_model.specs.Numbers.{Rise, value_under}
-use Rattle.gate_model.specs.Routing.{next, may_take, link_for, is_due, goes_by}
+use Rattle.gate_model.specs.Routing.{next, may_take, link_for}
 use Rattle.gate_model.specs.State.{State, IsInOrder, is_link}
 use Rattle.gate_model.proofs.NextLemmas.{first_pair}
 use Rattle.gate_model.proofs.NumberLemmas.{value_under-before}
@@ -54,9 +54,11 @@ pub next_may_be_taken : (rules : Rules) (state : State) (link now message : ℕ)
 next_may_be_taken rules state link now message order time is =
     let found = first_found (may_take rules state link now) 1 (state.last_message + 1) message state.waiting order.waiting is in
     let parts = and_parts _ _ found.passes in
-    let more = and_parts _ _ parts.1 in
-    (some_and (value_under message state.waiting) found.value (MayTake rules state link now) found.there
-    (none_is found.value.lease parts.0, leb-true _ now more.0, link_is link (link_for rules state found.value.sms) more.1), time)
+    let more = and_parts _ _ parts.1 in (
+      some_and (value_under message state.waiting) found.value (MayTake rules state link now) found.there
+          (none_is found.value.lease parts.0, leb-true _ now more.0, link_is link (link_for rules state found.value.sms) more.1),
+      time,
+    )
 
 -- a message that a link has taken may be given back
 pub leased_may_return : (rules : Rules) (state : State) (message : ℕ) → is_leased message state ≡ true → MayPass rules state (Returned message)

@@ -1,5 +1,5 @@
 -- Which entries may happen to a state, and which of them are refused.
-use Rattle.std.specs.Prelude.{◌≡◌, ◌≢◌, ℕ, Bool, ◌+◌, ◌*◌, ◌<◌, ◌≤◌, ◌^◌, nat_lt, nat_le, ◌&&◌, not, ◌==◌, List, [], ◌∷◌, length, All, Option, Some, None, IsSomeAnd, IsTrue, IsFalse, slice_get, position, if◌then◌else◌, true, false, ⊤}
+use Rattle.std.specs.Prelude.{◌≡◌, ◌≢◌, ℕ, Bool, ◌+◌, ◌*◌, ◌≤◌, ◌^◌, nat_lt, nat_le, ◌&&◌, not, ◌==◌, List, [], ◌∷◌, length, All, Option, Some, None, IsSomeAnd, IsTrue, slice_get, position, if◌then◌else◌, true, false, ⊤}
 use Rattle.std.specs.List.{list_any, list_all}
 use Rattle.std.specs.Option.{option_or, option_map, option_map_or}
 use Rattle.sms_record.specs.declared.sms.Sms.{Sms}

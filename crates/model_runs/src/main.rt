@@ -1,5 +1,6 @@
 //! A gate, act by act. A line of standard input holds `LINKS OUTGOING INCOMING`, with how many links there are, of which the first is
-//! up, and how many messages and arrivals may be held, and then acts between bars. What each comes to is a line of standard output.
+//! up, unless a `1` stands behind, and how many messages and arrivals may be held, and then acts between bars. What they come to is
+//! a line of standard output.
 //!
 //! `accept TIME COUNT DEFERRED VALIDITY`, and `adrift` the same to a receiver that no link takes; `acked MESSAGE TIME`, `rejected MESSAGE
 //! TIME`, `expired MESSAGE TIME`, `reported TIME`, `arrived`, `answered TIME COUNT ARRIVAL ..`, `called JOB`: entries that are recorded.
