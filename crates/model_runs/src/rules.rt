@@ -7,7 +7,7 @@ use route_rules::{LinkKind, LinkRule, Rules};
 use std::alloc::Global;
 
 /// The most links of a case.
-const MOST_LINKS: u64 = 8;
+const MOST_LINKS: usize = 8;
 
 fn link_rule(alloc: Global) -> LinkRule {
     LinkRule {
@@ -22,26 +22,26 @@ fn link_rule(alloc: Global) -> LinkRule {
     }
 }
 
-/// So many links.
+/// So many links, and no more than a case has.
 fn links_of(alloc: Global, count: u64) -> Result<Items<LinkRule>, Memory>
     ensures { IfOk result (λ links. length links ≤ 8) }
 {
     let mut links = Items::new(alloc);
-    for _ in 0..count.min(MOST_LINKS) {
+    for _ in 0..count {
+        if links.len() >= MOST_LINKS {
+            break;
+        }
         links.push(link_rule(alloc))?;
     }
     Ok(links)
 }
 
 /// Rules of so many links, and with these limits.
-pub(crate) fn rules_of(
-    alloc: Global,
-    links: u64,
-    (outgoing, incoming): (u64, u64),
-) -> Result<Rules, Memory>
+pub(crate) fn rules_of(alloc: Global, links: u64, limits: (u64, u64)) -> Result<Rules, Memory>
     ensures { IfOk result (λ rules. length rules.links ≤ 8) }
 {
     let links = links_of(alloc, links)?;
+    let (outgoing, incoming) = limits;
     Ok(Rules {
         links,
         outgoing,

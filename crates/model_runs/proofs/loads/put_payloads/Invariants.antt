@@ -3,5 +3,5 @@ use Rattle.gate_model.specs.Loading.{gate_in}
 use Rattle.model_runs.proofs.loads.put_payloads.Given as goal
 
 -- it reads a gate still
-abbrev pub invariant-loop-rest : goal.invariant-loop-rest
-invariant-loop-rest l = IsGate (gate_in l.loader)
+abbrev pub invariant-loop : goal.invariant-loop
+invariant-loop l = IsGate (gate_in l.loader)
