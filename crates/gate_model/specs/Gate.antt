@@ -91,6 +91,10 @@ HasRoom gate (entry.CallDropped dropped) = ⊤
 abbrev pub entry_of : Ready → Recorded
 entry_of ready = ready.entry
 
+-- the birth of the store that it was prepared for
+abbrev pub birth_of : Ready → ℕ
+birth_of ready = ready.birth
+
 -- ---- what is asked of a state
 
 -- the arrival of a number, where it is held
