@@ -315,7 +315,7 @@ module _ (state : State) (counted : IsCounted state) where
       let same = length-map parts unleased in
       omega (arith, many, numbered, same, counted)
 
-  counted-keeps : (kept : Recorded) → IsInOrder state → suits state kept ≡ true → IsCounted (keeps kept state)
+  pub counted-keeps : (kept : Recorded) → IsInOrder state → suits state kept ≡ true → IsCounted (keeps kept state)
   counted-keeps (entry.Accept accept) order suited = counted-accepts accept.parts
   counted-keeps (entry.Acked acked) order suited = let less = counted-ends acked.message order (and_parts _ _ suited).0 in omega (arith, less)
   counted-keeps (entry.Rejected rejected) order suited =
@@ -334,7 +334,7 @@ module _ (state : State) (counted : IsCounted state) where
   counted-keeps (entry.Called called) order suited = counted
   counted-keeps (entry.CallDropped dropped) order suited = counted
 
-  counted-passes : (brief : Passing) → IsCounted (passes brief state)
+  pub counted-passes : (brief : Passing) → IsCounted (passes brief state)
   counted-passes (Up link) = counted
   counted-passes (Down link) = counted
   counted-passes (Took link message time) = counted ∙ ap (λ n. state.acked + state.rejected + n) (sym (length-map state.waiting _))
@@ -344,11 +344,11 @@ module _ (state : State) (counted : IsCounted state) where
   counted-passes (TookArrival arrival) = counted
   counted-passes (ReturnedArrival arrival) = counted
 
-counted-does : (rules : Rules) (state : State) (one : Entry) → IsInOrder state → IsLawful rules state one → IsCounted state → IsCounted (does state one)
+pub counted-does : (rules : Rules) (state : State) (one : Entry) → IsInOrder state → IsLawful rules state one → IsCounted state → IsCounted (does state one)
 counted-does rules state (recorded kept) order lawful counted = counted-keeps state counted kept order lawful.0.1
 counted-does rules state (passing brief) order lawful counted = counted-passes state counted brief
 
-counted-after : (rules : Rules) (state : State) (entries : List Entry) → IsInOrder state → AreLawful rules state entries → IsCounted state → IsCounted (after state entries)
+pub counted-after : (rules : Rules) (state : State) (entries : List Entry) → IsInOrder state → AreLawful rules state entries → IsCounted state → IsCounted (after state entries)
 counted-after rules state [] order lawful counted = counted
 counted-after rules state (one ∷ entries) order lawful counted =
     counted-after rules (does state one) entries (IsInOrder-does state one order) lawful.1 (counted-does rules state one order lawful.0 counted)
