@@ -1,6 +1,6 @@
 -- The law of fates: no message ends twice, one that is known is stored exactly where it waits, and all are counted.
-use Rattle.std.proofs.Common.{◌≡◌, ◌≢◌, refl, sym, ap, ◌∙◌, subst, ℕ, ◌+◌, ◌≤◌, ◌<◌, ◌==◌, Bool, true, false, not, cond, List, [], ◌∷◌, ◌++◌, length, map, Option, Some, None, arith, length-append, sum_by, count_by, ne_eqb, eq-eqb, eqb-true, ◌⊎◌, inl, inr, ⊎_elim, ◌&&◌}
-use Rattle.std.specs.Prelude.{IsSome, IsTrue, is_some, ◌↔◌}
+use Rattle.std.proofs.Common.{◌≡◌, ◌≢◌, refl, sym, ap, ◌∙◌, subst, ℕ, ◌+◌, ◌≤◌, ◌<◌, ◌==◌, Bool, true, false, not, cond, List, [], ◌∷◌, ◌++◌, length, map, Option, Some, None, arith, length-append, count_by, ne_eqb, ◌⊎◌, inl, inr, ⊎_elim}
+use Rattle.std.specs.Prelude.{is_some, ◌↔◌}
 use Rattle.std.specs.Option.{option_map_or}
 use Rattle.std.proofs.lemmas.List.{length-map}
 use Rattle.std.proofs.lemmas.List.Sums.{sum_by-cons}
@@ -14,12 +14,12 @@ use Rattle.gate_entries.specs.declared.recorded.Recorded.TheVariants as entry
 use Rattle.gate_entries.specs.declared.passing.Passing.{Passing}
 use Rattle.gate_entries.specs.declared.passing.Passing.TheVariants.{Up, Down, Took, Returned, TookJob, ReturnedJob, TookArrival, ReturnedArrival}
 use Rattle.sms_record.specs.declared.kind.Kind.{Kind}
-use Rattle.gate_model.specs.Numbers.{Has, Rise, is_held, value_under, without, with_change, numbered_from}
+use Rattle.gate_model.specs.Numbers.{Rise, is_held, value_under, without, with_change, numbered_from}
 use Rattle.gate_model.specs.State.{State, Awaited, IsInOrder}
 use Rattle.gate_model.specs.Fold.{Entry, recorded, passing, keeps, passes, does, after, accepts, answers, hears, unleased, is_last, without_oldest}
 use Rattle.gate_model.specs.Lawful.{IsLawful, suits, may_end, has_expired}
-use Rattle.gate_model.specs.Fates.{AreLawful, Fate, taken, given_up, stored, fate, ended_by, is_end_of, IsCounted, IsKnown, HaveFates}
-use Rattle.gate_model.proofs.NumberLemmas.{by_number, length-without, length-numbered_from, value_under-before, Rise-wider}
+use Rattle.gate_model.specs.Fates.{AreLawful, Fate, taken, given_up, stored, fate, ended_by, is_end_of, IsCounted, HaveFates}
+use Rattle.gate_model.proofs.NumberLemmas.{by_number, length-without, length-numbered_from}
 use Rattle.gate_model.proofs.OrderLemmas.{IsInOrder-does}
 use Rattle.gate_model.proofs.WholeLemmas.{some_value}
 
@@ -315,7 +315,7 @@ module _ (state : State) (counted : IsCounted state) where
       let same = length-map parts unleased in
       omega (arith, many, numbered, same, counted)
 
-  counted-keeps : (kept : Recorded) → IsInOrder state → suits state kept ≡ true → IsCounted (keeps kept state)
+  pub counted-keeps : (kept : Recorded) → IsInOrder state → suits state kept ≡ true → IsCounted (keeps kept state)
   counted-keeps (entry.Accept accept) order suited = counted-accepts accept.parts
   counted-keeps (entry.Acked acked) order suited = let less = counted-ends acked.message order (and_parts _ _ suited).0 in omega (arith, less)
   counted-keeps (entry.Rejected rejected) order suited =
@@ -334,7 +334,7 @@ module _ (state : State) (counted : IsCounted state) where
   counted-keeps (entry.Called called) order suited = counted
   counted-keeps (entry.CallDropped dropped) order suited = counted
 
-  counted-passes : (brief : Passing) → IsCounted (passes brief state)
+  pub counted-passes : (brief : Passing) → IsCounted (passes brief state)
   counted-passes (Up link) = counted
   counted-passes (Down link) = counted
   counted-passes (Took link message time) = counted ∙ ap (λ n. state.acked + state.rejected + n) (sym (length-map state.waiting _))
@@ -344,11 +344,11 @@ module _ (state : State) (counted : IsCounted state) where
   counted-passes (TookArrival arrival) = counted
   counted-passes (ReturnedArrival arrival) = counted
 
-counted-does : (rules : Rules) (state : State) (one : Entry) → IsInOrder state → IsLawful rules state one → IsCounted state → IsCounted (does state one)
+pub counted-does : (rules : Rules) (state : State) (one : Entry) → IsInOrder state → IsLawful rules state one → IsCounted state → IsCounted (does state one)
 counted-does rules state (recorded kept) order lawful counted = counted-keeps state counted kept order lawful.0.1
 counted-does rules state (passing brief) order lawful counted = counted-passes state counted brief
 
-counted-after : (rules : Rules) (state : State) (entries : List Entry) → IsInOrder state → AreLawful rules state entries → IsCounted state → IsCounted (after state entries)
+pub counted-after : (rules : Rules) (state : State) (entries : List Entry) → IsInOrder state → AreLawful rules state entries → IsCounted state → IsCounted (after state entries)
 counted-after rules state [] order lawful counted = counted
 counted-after rules state (one ∷ entries) order lawful counted =
     counted-after rules (does state one) entries (IsInOrder-does state one order) lawful.1 (counted-does rules state one order lawful.0 counted)

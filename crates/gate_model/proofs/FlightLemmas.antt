@@ -1,6 +1,6 @@
 -- How many messages each link has in flight, as messages come, are taken and given back, and end.
-use Rattle.std.proofs.Common.{◌≡◌, ◌≢◌, refl, sym, ap, ◌∙◌, subst, ℕ, ◌+◌, ◌-◌, ◌≤◌, zero, suc, Bool, cond, List, [], ◌∷◌, ◌++◌, length, map, Option, Some, None, arith, sum_by, ne_eqb, eq-eqb, add-zero, zero-add}
-use Rattle.std.specs.Prelude.{slice_set, slice_index, ◌==◌, false, replicate}
+use Rattle.std.proofs.Common.{◌≡◌, ◌≢◌, refl, sym, ap, ◌∙◌, subst, ℕ, ◌+◌, ◌-◌, ◌≤◌, zero, suc, cond, List, [], ◌∷◌, ◌++◌, length, map, Option, Some, None, arith, ne_eqb, eq-eqb, add-zero, zero-add}
+use Rattle.std.specs.Prelude.{slice_set, slice_index, replicate}
 use Rattle.std.specs.List.{range_with_len}
 use Rattle.std.proofs.lemmas.List.Sums.{sum_by-cons, sum_by-append, count_by-le-length}
 use Rattle.sms_record.specs.declared.sms.Sms.{Sms}

@@ -5,5 +5,7 @@ pub mod NextLemmas
 pub mod NumberLemmas
 pub mod OrderLemmas
 pub mod PutLemmas
+pub mod RefusalLemmas
 pub mod SettlingLaws
+pub mod TakeLemmas
 pub mod WholeLemmas

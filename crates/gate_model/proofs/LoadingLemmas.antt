@@ -1,11 +1,11 @@
 -- A payload is the octets of one entry alone.
-use Rattle.std.proofs.Common.{◌≡◌, sym, ap, ◌∙◌, subst, ℕ, ◌<◌, ◌^◌, Bool, true, false, List, [], ◌++◌, lt-ltb, refl}
-use Rattle.std.specs.Prelude.{◌&&◌, nat_lt, IsTrue}
+use Rattle.std.proofs.Common.{◌≡◌, sym, ap, ◌∙◌, subst, ℕ, Bool, true, false, List, [], ◌++◌, lt-ltb}
+use Rattle.std.specs.Prelude.{◌&&◌, nat_lt}
 use Rattle.gate_entries.specs.declared.recorded.Recorded.{Recorded}
 use Rattle.gate_entries.specs.Entry.{IsEntry, entry_octets}
 use Rattle.gate_entries.proofs.Alone.{one_entry}
 use Rattle.gate_model.specs.Lawful.{suits, most_entries}
-use Rattle.gate_model.specs.Loading.{ComesNext, IsOutside, is_served}
+use Rattle.gate_model.specs.Loading.{IsOutside, is_served}
 use Rattle.gate_model.specs.State.{State}
 
 all_three : (a b c : Bool) → a ≡ true → b ≡ true → c ≡ true → (a && (b && c)) ≡ false → ⊥

@@ -1,10 +1,10 @@
 -- Pairs in the order of their numbers: what a change leaves of them.
-use Rattle.std.proofs.Common.{◌≡◌, refl, sym, ap, ◌∙◌, subst, ℕ, ◌+◌, ◌<◌, ◌≤◌, ◌==◌, Bool, true, false, not, cond, List, [], ◌∷◌, ◌++◌, length, map, filter, Option, Some, None, All, arith, sum_by, count_by, add-zero, ◌≢◌, suc, ne_eqb, eq-eqb, ⊎_elim}
+use Rattle.std.proofs.Common.{◌≡◌, refl, sym, ap, ◌∙◌, subst, ℕ, ◌+◌, ◌<◌, ◌≤◌, ◌==◌, Bool, true, false, not, cond, List, [], ◌∷◌, ◌++◌, length, map, Some, None, arith, sum_by, add-zero, ◌≢◌, suc, ne_eqb, eq-eqb, ⊎_elim}
 use Rattle.std.proofs.lemmas.Bool.{cases_eq}
 use Rattle.std.proofs.lemmas.List.Elements.{All-nil, All-cons}
 use Rattle.std.proofs.lemmas.List.Sums.{sum_by-cons}
 use Rattle.numbered_table.specs.Pairs.{value_under, without, with_value, AllBelow}
-use Rattle.gate_model.specs.Numbers.{Has, with_change, with_changes, numbered_from, Rise}
+use Rattle.gate_model.specs.Numbers.{with_change, with_changes, numbered_from, Rise}
 
 -- a number is this one, or another
 pub by_number : (P : Bool → Type 0) (a b : ℕ) → (a ≡ b → P true) → (a ≢ b → P false) → P (a == b)
@@ -178,33 +178,8 @@ module _ {T : Type 0} where
     with_changes-numbered_from first (value ∷ values) = ap (λ ps. (first, every value) ∷ ps) (with_changes-numbered_from (first + 1) values)
 
 module _ {T : Type 0} where
-  with_value-with_value : (number : ℕ) (value other : T) (pairs : List (ℕ × T)) → with_value number other (with_value number value pairs) ≡ with_value number other pairs
-  with_value-with_value number value other [] = refl
-  with_value-with_value number value other (pair ∷ pairs) =
-      let rest = with_value-with_value number value other pairs in
-      by_number
-      (λ b. with_value number other (cond b (number, value) pair ∷ with_value number value pairs) ≡ cond b (number, other) pair ∷ with_value number other pairs) pair.0 number
-      (λ e. rw (eq-eqb number number refl) (ap (λ ps. (number, other) ∷ ps) rest))
-      (λ ne. rw (ne_eqb pair.0 number ne) (ap (λ ps. pair ∷ ps) rest))
-
-  -- a value is taken out for a moment, and put back changed
-  pub with_change-replaced : (from below number : ℕ) (change : T → T) (value holder : T) (pairs without_it with_it : List (ℕ × T)) → Rise from below pairs → value_under number pairs ≡ Some value
-      → without_it ≡ with_value number holder pairs → with_it ≡ with_value number (change value) without_it → with_it ≡ with_change number change pairs
-  with_change-replaced from below number change value holder pairs without_it with_it rise is first second =
-      second ∙ ap (with_value number (change value)) first ∙ with_value-with_value number holder (change value) pairs
-      ∙ with_change-value from below number change value pairs rise is
-
-  -- a number that isn't there
-  with_value-absent : (number : ℕ) (value : T) (pairs : List (ℕ × T)) → value_under number pairs ≡ None → with_value number value pairs ≡ pairs
-  with_value-absent number value [] none = refl
-  with_value-absent number value (pair ∷ pairs) none =
-      by_number
-      (λ b. cond b (Some pair.1) (value_under number pairs) ≡ None → cond b (number, value) pair ∷ with_value number value pairs ≡ pair ∷ pairs) pair.0 number
-      (λ e is. absurd cc)
-      (λ ne is. ap (λ ps. pair ∷ ps) (with_value-absent number value pairs is))
-      none
-
-  with_change-absent : (number : ℕ) (change : T → T) (pairs : List (ℕ × T)) → value_under number pairs ≡ None → with_change number change pairs ≡ pairs
+  -- nothing is there to be changed
+  pub with_change-absent : (number : ℕ) (change : T → T) (pairs : List (ℕ × T)) → value_under number pairs ≡ None → with_change number change pairs ≡ pairs
   with_change-absent number change [] none = refl
   with_change-absent number change (pair ∷ pairs) none =
       by_number
@@ -212,8 +187,3 @@ module _ {T : Type 0} where
       (λ e is. absurd cc)
       (λ ne is. ap (λ ps. pair ∷ ps) (with_change-absent number change pairs is))
       none
-
-  -- nothing is there to be changed
-  pub with_change-nothing : (number : ℕ) (change : T → T) (holder : T) (pairs now : List (ℕ × T)) → value_under number pairs ≡ None → now ≡ with_value number holder pairs
-      → now ≡ with_change number change pairs
-  with_change-nothing number change holder pairs now none is = is ∙ with_value-absent number holder pairs none ∙ sym (with_change-absent number change pairs none)

@@ -1,6 +1,6 @@
 -- The law of settling: leases, returns and links that are up are forgotten, and nothing that is kept hangs on them.
 use Rattle.std.proofs.Common.{◌≡◌, refl, sym, ap, ◌∙◌, ℕ, ◌+◌, zero, suc, Bool, true, false, cond, List, [], ◌∷◌, ◌++◌, map, Option, Some, None}
-use Rattle.std.proofs.lemmas.List.{map-append, map-set}
+use Rattle.std.proofs.lemmas.List.{map-append}
 use Rattle.std.specs.Prelude.{fold, slice_set}
 use Rattle.sms_record.specs.declared.kind.Kind.{Kind}
 use Rattle.sms_record.specs.declared.sms.Sms.{Sms}
@@ -8,7 +8,7 @@ use Rattle.gate_entries.specs.declared.recorded.Recorded.{Recorded}
 use Rattle.gate_entries.specs.declared.recorded.Recorded.TheVariants as entry
 use Rattle.gate_entries.specs.declared.passing.Passing.{Passing}
 use Rattle.gate_entries.specs.declared.passing.Passing.TheVariants.{Up, Down, Took, Returned, TookJob, ReturnedJob, TookArrival, ReturnedArrival}
-use Rattle.gate_model.specs.Numbers.{without, with_change, with_changes, numbered_from}
+use Rattle.gate_model.specs.Numbers.{without, with_changes, numbered_from}
 use Rattle.gate_model.specs.State.{State, Awaited}
 use Rattle.gate_model.specs.Fold.{Entry, recorded, passing, keeps, passes, does, after, counts_entry, accepts, answers, hears, unleased, is_last, without_oldest}
 use Rattle.gate_model.specs.Settling.{settle, free_waiting, free_arrival, free_job, kept, SettlesAlike}

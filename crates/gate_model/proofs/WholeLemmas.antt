@@ -1,6 +1,6 @@
 -- What keeps a state whole is kept by each thing that a gate does.
-use Rattle.std.proofs.Common.{◌≡◌, ◌≢◌, refl, sym, ap, ◌∙◌, subst, ℕ, ◌+◌, ◌*◌, ◌-◌, ◌≤◌, ◌<◌, ◌^◌, zero, suc, Bool, List, [], ◌∷◌, ◌++◌, length, map, Option, Some, None, arith, add-zero, length-set}
-use Rattle.std.specs.Prelude.{slice_set, slice_index, fold, IsSome, IsSomeAnd, replicate, false}
+use Rattle.std.proofs.Common.{◌≡◌, refl, sym, ap, ◌∙◌, subst, ℕ, ◌+◌, ◌*◌, ◌≤◌, ◌<◌, ◌^◌, zero, suc, Bool, List, [], ◌∷◌, length, map, Option, Some, None, arith, length-set}
+use Rattle.std.specs.Prelude.{slice_set, slice_index, IsSome, IsSomeAnd, replicate, false}
 use Rattle.std.specs.List.{range_with_len}
 use Rattle.std.proofs.lemmas.List.{length-replicate}
 use Rattle.sms_record.specs.declared.sms.Sms.{Sms}
@@ -8,10 +8,10 @@ use Rattle.route_rules.specs.declared.rules.Rules.{Rules}
 use Rattle.gate_entries.specs.declared.limits.TheConstants.{MOST_MESSAGES}
 use Rattle.gate_model.specs.declared.gate.Gate.{Gate}
 use Rattle.gate_model.specs.declared.waiting.Waiting.{Waiting}
-use Rattle.gate_model.specs.Numbers.{Has, Rise, value_under, without, with_change, numbered_from}
-use Rattle.gate_model.specs.State.{State, IsInOrder, flight_of, flights, empty}
-use Rattle.gate_model.specs.Fold.{accepts, answers, arrives, ends, leases, leases_arrival, unleased, counts_entry, acknowledges, rejects, misses}
-use Rattle.gate_model.specs.Gate.{IsWhole, IsBounded, IsGate, Becomes, model_of, rules_of}
+use Rattle.gate_model.specs.Numbers.{Rise, value_under}
+use Rattle.gate_model.specs.State.{State, flight_of, flights, empty}
+use Rattle.gate_model.specs.Fold.{accepts, answers, arrives, ends, leases, leases_arrival, counts_entry}
+use Rattle.gate_model.specs.Gate.{IsWhole, IsBounded, Becomes, model_of, rules_of}
 use Rattle.gate_model.specs.Lawful.{most_entries}
 use Rattle.gate_model.specs.Links.{raised, lowered}
 use Rattle.gate_model.proofs.FlightLemmas.{flights-ends, flights-returned, flights-taken, flights-accepts, flights-none, flight_of-le}

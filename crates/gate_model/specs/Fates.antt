@@ -4,7 +4,6 @@ use Rattle.route_rules.specs.declared.rules.Rules.{Rules}
 use Rattle.gate_entries.specs.declared.cause.Cause.{Cause}
 use Rattle.gate_entries.specs.declared.recorded.Recorded.{Recorded}
 use Rattle.gate_entries.specs.declared.recorded.Recorded.TheVariants as entry
-use Rattle.gate_entries.specs.declared.passing.Passing.{Passing}
 use Rattle.gate_model.specs.Lawful.{IsLawful}
 use Rattle.gate_model.specs.State.{State}
 use Rattle.gate_model.specs.Fold.{Entry, recorded, passing, does, after}

@@ -1,5 +1,5 @@
 -- What entries do to a state.
-use Rattle.std.specs.Prelude.{ℕ, ◌+◌, ◌-◌, ◌^◌, Bool, true, false, not, min, List, [], ◌∷◌, ◌++◌, length, map, fold, find, Option, Some, None, option_map, slice_set, if◌then◌else◌}
+use Rattle.std.specs.Prelude.{ℕ, ◌+◌, ◌-◌, ◌^◌, Bool, true, false, min, List, [], ◌∷◌, ◌++◌, length, map, fold, find, Option, Some, None, option_map, slice_set, if◌then◌else◌}
 use Rattle.sms_record.specs.declared.kind.Kind.{Kind}
 use Rattle.sms_record.specs.declared.kind.Kind.TheVariants.{Delivered, Undelivered, Buffered, Sent, Refused}
 use Rattle.sms_record.specs.declared.sms.Sms.{Sms}
@@ -7,10 +7,9 @@ use Rattle.gate_entries.specs.declared.recorded.Recorded.{Recorded}
 use Rattle.gate_entries.specs.declared.recorded.Recorded.TheVariants as entry
 use Rattle.gate_entries.specs.declared.passing.Passing.{Passing}
 use Rattle.gate_entries.specs.declared.passing.Passing.TheVariants.{Up, Down, Took, Returned, TookJob, ReturnedJob, TookArrival, ReturnedArrival}
-use Rattle.gate_model.specs.declared.arrival.Arrival.{Arrival}
 use Rattle.gate_model.specs.declared.waiting.Waiting.{Waiting}
 use Rattle.gate_model.specs.Numbers.{value_under, without, with_change, numbered_from}
-use Rattle.gate_model.specs.State.{State, Awaited, Job, is_under}
+use Rattle.gate_model.specs.State.{State, Awaited, is_under}
 
 -- What happens to a store: an entry that it keeps, or one that is forgotten when it ends.
 pub data Entry : Type 0 where

@@ -1,5 +1,5 @@
 -- A gate: the state that it holds, and what keeps it whole.
-use Rattle.std.specs.Prelude.{◌≡◌, ℕ, ◌+◌, ◌*◌, ◌<◌, ◌≤◌, ◌^◌, List, [], length, Option, option_map, ⊤}
+use Rattle.std.specs.Prelude.{◌≡◌, ℕ, ◌*◌, ◌<◌, ◌≤◌, ◌^◌, List, [], length, Option, option_map, ⊤}
 use Rattle.std.specs.Option.{option_and_then, option_map_or}
 use Rattle.std.specs.Prelude.{Bool, is_some}
 use Rattle.sms_record.specs.declared.sms.Sms.{Sms}
@@ -90,6 +90,10 @@ HasRoom gate (entry.CallDropped dropped) = ⊤
 -- the entry that was prepared
 abbrev pub entry_of : Ready → Recorded
 entry_of ready = ready.entry
+
+-- the birth of the store that it was prepared for
+abbrev pub birth_of : Ready → ℕ
+birth_of ready = ready.birth
 
 -- ---- what is asked of a state
 

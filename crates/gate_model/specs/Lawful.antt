@@ -1,5 +1,5 @@
 -- Which entries may happen to a state, and which of them are refused.
-use Rattle.std.specs.Prelude.{◌≡◌, ◌≢◌, ℕ, Bool, ◌+◌, ◌*◌, ◌<◌, ◌≤◌, ◌^◌, nat_lt, nat_le, ◌&&◌, not, ◌==◌, List, [], ◌∷◌, length, All, Option, Some, None, IsSomeAnd, IsTrue, IsFalse, slice_get, position, if◌then◌else◌, true, false, ⊤}
+use Rattle.std.specs.Prelude.{◌≡◌, ◌≢◌, ℕ, Bool, ◌+◌, ◌*◌, ◌≤◌, ◌^◌, nat_lt, nat_le, ◌&&◌, not, ◌==◌, List, [], ◌∷◌, length, All, Option, Some, None, IsSomeAnd, IsTrue, slice_get, position, if◌then◌else◌, true, false, ⊤}
 use Rattle.std.specs.List.{list_any, list_all}
 use Rattle.std.specs.Option.{option_or, option_map, option_map_or}
 use Rattle.sms_record.specs.declared.sms.Sms.{Sms}
@@ -7,7 +7,7 @@ use Rattle.route_rules.specs.declared.rules.Rules.{Rules}
 use Rattle.route_rules.specs.Routes.{routable}
 use Rattle.gate_entries.specs.declared.cause.Cause.{Cause}
 use Rattle.gate_entries.specs.declared.cause.Cause.TheVariants.{Centre, Expired}
-use Rattle.gate_entries.specs.Entry.{IsEntry}
+use Rattle.gate_entries.specs.Entry.{IsEntry, entry_octets}
 use Rattle.gate_entries.specs.declared.call_dropped.DropCause.{DropCause}
 use Rattle.gate_entries.specs.declared.call_dropped.DropCause.TheVariants.{BadUrl, Tries}
 use Rattle.gate_entries.specs.declared.recorded.Recorded.{Recorded}
@@ -114,8 +114,13 @@ MayPass rules state (ReturnedJob job) = IsJob true state job
 MayPass rules state (TookArrival arrival) = IsArrival false state arrival
 MayPass rules state (ReturnedArrival arrival) = IsArrival true state arrival
 
+-- the most octets of an entry: one unit of a journal holds them
+abbrev pub most_octets : ℕ
+most_octets = 16777216
+
+-- lawful: an entry that is recorded is sound, is short enough to be kept, and ends only what was taken
 abbrev pub IsLawful : Rules → State → Entry → Type 0
-IsLawful rules state (recorded kept) = IsSound state kept × HoldsLease state kept
+IsLawful rules state (recorded kept) = IsSound state kept × HoldsLease state kept × (length (entry_octets kept) ≤ most_octets)
 IsLawful rules state (passing brief) = MayPass rules state brief
 
 -- ---- refused: entries that are lawful, and for which there is no link or no room

@@ -1,5 +1,5 @@
 -- What is replied to an entry that was recorded.
-use Rattle.std.specs.Prelude.{ℕ, ◌+◌, Bool, true, false, ◌==◌, is_some, List, [], ◌∷◌, length, find}
+use Rattle.std.specs.Prelude.{◌+◌, Bool, true, false, ◌==◌, is_some, List, [], ◌∷◌, length, find}
 use Rattle.sms_record.specs.declared.sms.Sms.{Sms}
 use Rattle.route_rules.specs.declared.rules.Rules.{Rules}
 use Rattle.route_rules.specs.Routes.{pool}

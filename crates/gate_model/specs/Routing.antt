@@ -1,5 +1,5 @@
 -- Which message a link sends next, and which job and arrival come next.
-use Rattle.std.specs.Prelude.{ℕ, ◌+◌, ◌*◌, Bool, true, false, ◌&&◌, ◌==◌, nat_le, is_none, not, List, [], ◌∷◌, length, filter, find, Option, option_map}
+use Rattle.std.specs.Prelude.{ℕ, ◌+◌, ◌*◌, Bool, ◌&&◌, nat_le, is_none, not, List, filter, find, Option, option_map}
 use Rattle.std.specs.List.{list_all}
 use Rattle.sms_record.specs.declared.sms.Sms.{Sms}
 use Rattle.route_rules.specs.declared.rules.Rules.{Rules}

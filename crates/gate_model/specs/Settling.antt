@@ -1,7 +1,5 @@
 -- What is left of a state when its store is opened again.
-use Rattle.std.specs.Prelude.{◌≡◌, ℕ, Bool, false, List, [], ◌∷◌, map, Option, None}
-use Rattle.gate_entries.specs.declared.recorded.Recorded.{Recorded}
-use Rattle.gate_entries.specs.declared.passing.Passing.{Passing}
+use Rattle.std.specs.Prelude.{◌≡◌, false, List, [], ◌∷◌, map, None}
 use Rattle.gate_model.specs.declared.arrival.Arrival.{Arrival}
 use Rattle.gate_model.specs.declared.waiting.Waiting.{Waiting}
 use Rattle.gate_model.specs.Numbers.{with_changes}

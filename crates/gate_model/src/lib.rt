@@ -1,8 +1,13 @@
-//! What a store of messages is to those that hand messages in.
+//! What a store of messages holds, what happens to it, and what it is to those that hand messages in.
+//!
+//! A `Gate` keeps messages that wait, messages from centres, which links are up, who has taken what, and counts. `check` says whether an
+//! entry is refused; `prepare` takes the memory that it needs, as a `Ready`, and `apply` does it; `pass` does what isn't recorded; and
+//! `next_for` says which message a link takes next. A `Loader` reads a gate from what a store kept.
 //!
 //! An `Acceptor` takes the parts of a message, and answers a `Reply` or a `Refusal`. `Totals` is what it counts.
 //!
-//! The one contract: what was handed in and what was answered, in order, leads the store from what it was to what it is.
+//! The contracts: a gate holds a state (`specs/State.antt`), and an entry makes of it what its definition says (`specs/Fold.antt`).
+//! What was handed in and what was answered, in order, leads a store from what it was to what it is.
 #![tactic(auto)]
 
 mod acceptor;

@@ -1,7 +1,7 @@
 //! An entry for which memory was taken.
 
 ghost use Rattle.std.specs.Prelude.{◌≡◌};
-ghost use Rattle.gate_model.specs.Gate.{entry_of};
+ghost use Rattle.gate_model.specs.Gate.{birth_of, entry_of};
 
 use gate_entries::Recorded;
 
@@ -23,7 +23,7 @@ impl Ready {
 
     /// The birth of the store that the entry was prepared for.
     pub fn birth(&self) -> u64
-        ensures { result ≡ self.now.birth }
+        ensures { result ≡ birth_of self.now }
     {
         self.birth
     }

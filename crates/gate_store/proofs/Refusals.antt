@@ -1,8 +1,5 @@
--- What the model refuses, and what isn't refused.
-use Rattle.std.proofs.Common.{◌≡◌, ℕ, ◌+◌, ◌<◌, Bool, true, false, cond, nat_lt, ltb, List, length, Option, Some, None, Result, Err, IfSome, refl, sym, ap, ◌∙◌, subst}
-use Rattle.std.proofs.lemmas.Bool.{ltb-true}
-use Rattle.std.specs.Prelude.{not, ◌&&◌}
-use Rattle.std.specs.List.{position_from}
+-- What the model refuses.
+use Rattle.std.proofs.Common.{◌≡◌, ℕ, Bool, true, false, cond, nat_lt, List, length, Option, Some, None, Err, IfSome, refl, subst}
 use Rattle.std.specs.Option.{option_or, option_map}
 use Rattle.gate_entries.specs.declared.recorded.Recorded.{Recorded}
 use Rattle.gate_entries.specs.declared.recorded.Recorded.TheVariants as entry
@@ -69,34 +66,3 @@ pub reason_named : (rules : Rules) (state : State) (kept : Recorded) (why : Refu
     → IsReason rules state kept (Err why) × (is_by_disk {T = Reply} (Err why) ≡ false)
 reason_named rules state kept why is =
     by_name rules state kept why (subst (λ o. IfSome o IsNamed) is (named rules state kept)) is
-
--- ---- what isn't refused
-
-second_none : (first second : Option Refusal) → option_or first second ≡ None → second ≡ None
-second_none (Some why) second is = absurd cc
-second_none None second is = is
-
-few_entries : (state : State) → past_entries state ≡ None → state.entries < most_entries
-few_entries state is = by_test (nat_lt state.entries most_entries) refl is
-  where
-    by_test : (b : Bool) → nat_lt state.entries most_entries ≡ b → cond b None (Some (Full state.entries most_entries)) ≡ None → state.entries < most_entries
-    by_test true test is = ltb-true state.entries most_entries test
-    by_test false test is = absurd cc
-
-few_behind_parts : (rules : Rules) (state : State) (parts : List Sms) → refused_parts rules state parts ≡ None → past_entries state ≡ None
-few_behind_parts rules state parts is =
-    second_none (past_queue rules state parts) (past_entries state) (second_none (without_route rules parts) (option_or (past_queue rules state parts) (past_entries state)) is)
-
-no_more : (rules : Rules) (state : State) (kept : Recorded) → refusal rules state kept ≡ None → past_entries state ≡ None
-no_more rules state (entry.Accept accept) is = few_behind_parts rules state accept.parts is
-no_more rules state (entry.Acked acked) is = is
-no_more rules state (entry.Rejected rejected) is = is
-no_more rules state (entry.Reported reported) is = is
-no_more rules state (entry.Arrived arrived) is = second_none (past_arrivals rules state) (past_entries state) is
-no_more rules state (entry.Answered answered) is = few_behind_parts rules state answered.parts is
-no_more rules state (entry.Called called) is = is
-no_more rules state (entry.CallDropped dropped) is = is
-
--- where an entry isn't refused, fewer were recorded than ever may be
-pub not_refused : (rules : Rules) (state : State) (kept : Recorded) → refusal rules state kept ≡ None → state.entries < most_entries
-not_refused rules state kept is = few_entries state (no_more rules state kept is)

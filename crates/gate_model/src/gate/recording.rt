@@ -3,7 +3,7 @@
 ghost use Rattle.std.specs.Prelude.{◌≡◌, ◌<◌, ◌≤◌, ◌+◌, true, false, length, IfOk, IfErr, OnOk};
 ghost use Rattle.gate_entries.specs.declared.limits.TheConstants.{MOST_MESSAGES};
 ghost use Rattle.gate_model.specs.Fold.{recorded, does, counts_entry, accepts, answers, arrives, acknowledges, rejects, misses};
-ghost use Rattle.gate_model.specs.Gate.{model_of, rules_of, entry_of, IsGate, Becomes, HasRoom, KeepsAll};
+ghost use Rattle.gate_model.specs.Gate.{model_of, rules_of, birth_of, entry_of, IsGate, Becomes, HasRoom, KeepsAll};
 ghost use Rattle.gate_model.specs.Lawful.{IsSound, most_entries};
 ghost use Rattle.gate_model.specs.Numbers.{Has};
 ghost use Rattle.gate_model.specs.Replies.{reply_to, is_queued as queued_first};
@@ -22,6 +22,7 @@ impl Gate {
     /// Takes all memory that an entry needs. What the gate holds stays; after `Memory` the entry is given back.
     pub fn prepare(&mut self, entry: Recorded, birth: u64) -> Result<Ready, (Recorded, Memory)>
         ensures entry { IfOk result (λ ready. entry_of ready ≡ entry) }
+        ensures birth { IfOk result (λ ready. birth_of ready ≡ birth) }
         ensures room { OnOk result (HasRoom self.new entry) }
         ensures state { KeepsAll self.old self.new }
         ensures err { IfErr result (λ back. back.0 ≡ entry) }

@@ -1,4 +1,4 @@
-use Rattle.std.proofs.Common.{refl, ap, ◌+◌}
+use Rattle.std.proofs.Common.{refl, ◌+◌}
 use Rattle.gate_model.specs.Gate.{model_of}
 use Rattle.gate_model.proofs.NumberLemmas.{AllBelow-Rise}
 use Rattle.gate_model.proofs.PutLemmas.{accepted-state}

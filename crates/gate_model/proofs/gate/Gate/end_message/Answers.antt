@@ -1,4 +1,4 @@
-use Rattle.std.proofs.Common.{◌≡◌, refl, ap, sym, ◌∙◌}
+use Rattle.std.proofs.Common.{refl, ap, sym}
 use Rattle.gate_model.specs.Gate.{model_of}
 use Rattle.gate_model.proofs.WholeLemmas.{becomes, whole-ends}
 use Rattle.gate_model.proofs.gate.Gate.end_message.Goals as goal

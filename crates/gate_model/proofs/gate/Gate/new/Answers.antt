@@ -1,4 +1,4 @@
-use Rattle.std.proofs.Common.{◌≡◌, ◌<◌, ◌^◌, refl, sym, ap, ◌∙◌, arith}
+use Rattle.std.proofs.Common.{◌<◌, ◌^◌, sym, ap, ◌∙◌, arith}
 use Rattle.gate_model.specs.State.{empty}
 use Rattle.gate_model.proofs.WholeLemmas.{whole-new}
 use Rattle.gate_model.proofs.gate.Gate.new.Goals as goal

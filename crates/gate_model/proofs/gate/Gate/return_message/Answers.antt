@@ -1,4 +1,4 @@
-use Rattle.std.proofs.Common.{◌≡◌, refl, ap, ◌∙◌}
+use Rattle.std.proofs.Common.{refl, ap, ◌∙◌}
 use Rattle.gate_model.specs.Gate.{model_of}
 use Rattle.std.specs.Option.{option_and_then}
 use Rattle.gate_model.specs.Links.{lowered}

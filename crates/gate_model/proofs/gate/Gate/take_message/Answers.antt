@@ -1,4 +1,4 @@
-use Rattle.std.proofs.Common.{◌≡◌, refl, ap, arith}
+use Rattle.std.proofs.Common.{refl, ap, arith}
 use Rattle.gate_model.specs.Gate.{model_of}
 use Rattle.gate_model.proofs.WholeLemmas.{becomes, few_in_flight, some_value_and, whole-taken}
 use Rattle.gate_model.proofs.gate.Gate.take_message.Goals as goal

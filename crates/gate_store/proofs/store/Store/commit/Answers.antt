@@ -8,7 +8,7 @@ use Rattle.gate_model.specs.declared.gate.Gate.{Gate}
 use Rattle.store_journal.specs.Journal.{HoldsMore}
 use Rattle.gate_store.specs.Store.{rules_in, state_in}
 use Rattle.gate_store.proofs.Recording.{appended}
-use Rattle.gate_store.proofs.Refusals.{not_refused}
+use Rattle.gate_model.proofs.RefusalLemmas.{few_where_unrefused}
 use Rattle.gate_store.proofs.store.Store.commit.Goals as goal
 
 pub returns : goal.returns
@@ -27,7 +27,7 @@ returns g c =
       spelled = refl;
       served = c.requires.may.served;
       sound = c.requires.may.sound;
-      few = not_refused (rules_in old) (state_in old) kept c.requires.taken;
+      few = few_where_unrefused (rules_in old) (state_in old) kept c.requires.taken;
     })
     c.requires.taken
     (c.apply.ensures.reply ∙ ap (λ (x : Gate). reply_to (rules_of x) (model_of x) kept) gate)

@@ -1,0 +1,69 @@
+-- What comes next may be taken.
+use Rattle.std.proofs.Common.{◌≡◌, ◌≢◌, refl, sym, ap, ◌∙◌, subst, ℕ, ◌+◌, Bool, true, false, cond, List, [], ◌∷◌, Option, Some, None, arith, leb-true, eqb-true, eq-eqb, ne_eqb}
+use Rattle.std.specs.Prelude.{find, option_map, IsSomeAnd, is_none, is_some}
+use Rattle.std.specs.Option.{option_and_then}
+use Rattle.std.proofs.lemmas.Bool.{and_parts}
+use Rattle.route_rules.specs.declared.rules.Rules.{Rules}
+use Rattle.gate_entries.specs.declared.passing.Passing.TheVariants.{Took, Returned}
+use Rattle.gate_model.specs.declared.waiting.Waiting.{Waiting}
+use Rattle.gate_model.specs.Gate.{is_leased}
+use Rattle.gate_model.specs.Lawful.{MayPass, MayTake, is_time}
+use Rattle.gate_model.specs.Numbers.{Rise, value_under}
+use Rattle.gate_model.specs.Routing.{next, may_take, link_for}
+use Rattle.gate_model.specs.State.{State, IsInOrder, is_link}
+use Rattle.gate_model.proofs.NextLemmas.{first_pair}
+use Rattle.gate_model.proofs.NumberLemmas.{value_under-before}
+
+module _ {T : Type 0} (test : T → Bool) where
+  -- The value under this number passes.
+  pub record Found (number : ℕ) (pairs : List (ℕ × T)) : Type 0 where
+    pub value : T
+    pub there : value_under number pairs ≡ Some value
+    pub passes : test value ≡ true
+
+  first_step : (number : ℕ) (pair : ℕ × T) (pairs : List (ℕ × T)) (b : Bool) → test pair.1 ≡ b → (Found number pairs → pair.0 ≢ number) → (first_pair test pairs ≡ Some number → Found number pairs)
+      → option_map (λ p. p.0) (cond b (Some pair) (find (λ p. test p.1) pairs)) ≡ Some number → Found number (pair ∷ pairs)
+  first_step number pair pairs true passes apart rest is =
+      let same : pair.0 ≡ number = cc in
+      record { value = pair.1; there = ap (λ b. cond b (Some pair.1) (value_under number pairs)) (eq-eqb pair.0 number same); passes = passes }
+  first_step number pair pairs false passes apart rest is =
+      let found = rest is in
+      record { value = found.value; there = ap (λ b. cond b (Some pair.1) (value_under number pairs)) (ne_eqb pair.0 number (apart found)) ∙ found.there; passes = found.passes }
+
+  -- the first pair whose value passes is found under its number
+  first_found : (from below number : ℕ) (pairs : List (ℕ × T)) → Rise from below pairs → first_pair test pairs ≡ Some number → Found number pairs
+  first_found from below number [] rise is = absurd cc
+  first_found from below number (pair ∷ pairs) rise is =
+      first_step number pair pairs (test pair.1) refl
+      (λ found e. let none = value_under-before (pair.0 + 1) below number pairs (omega arith) rise.2 in let t : Some found.value ≡ None = sym found.there ∙ none in cc)
+      (first_found (pair.0 + 1) below number pairs rise.2) is
+
+none_is : {T : Type 0} (o : Option T) → is_none o ≡ true → o ≡ None
+none_is None is = refl
+none_is (Some x) is = absurd cc
+
+link_is : (link : ℕ) (o : Option ℕ) → is_link link o ≡ true → o ≡ Some link
+link_is link None is = absurd cc
+link_is link (Some other) is = ap Some (eqb-true other link is)
+
+some_and : {T : Type 0} (o : Option T) (value : T) (P : T → Type 0) → o ≡ Some value → P value → IsSomeAnd o P
+some_and o value P is p = subst (λ x. IsSomeAnd x P) (sym is) p
+
+-- the message that a link takes next may be taken by it
+pub next_may_be_taken : (rules : Rules) (state : State) (link now message : ℕ) → IsInOrder state → is_time now ≡ true → next rules state link now ≡ Some message → MayPass rules state (Took link message now)
+next_may_be_taken rules state link now message order time is =
+    let found = first_found (may_take rules state link now) 1 (state.last_message + 1) message state.waiting order.waiting is in
+    let parts = and_parts _ _ found.passes in
+    let more = and_parts _ _ parts.1 in (
+      some_and (value_under message state.waiting) found.value (MayTake rules state link now) found.there
+          (none_is found.value.lease parts.0, leb-true _ now more.0, link_is link (link_for rules state found.value.sms) more.1),
+      time,
+    )
+
+-- a message that a link has taken may be given back
+pub leased_may_return : (rules : Rules) (state : State) (message : ℕ) → is_leased message state ≡ true → MayPass rules state (Returned message)
+leased_may_return rules state message is = by_value (value_under message state.waiting) is
+  where
+    by_value : (o : Option Waiting) → is_some (option_and_then (λ w. w.lease) o) ≡ true → IsSomeAnd o (λ w. w.lease ≢ None)
+    by_value None is = absurd cc
+    by_value (Some w) is = λ none. let t : false ≡ true = sym (ap is_some none) ∙ is in cc

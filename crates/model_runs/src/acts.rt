@@ -1,0 +1,214 @@
+//! Acts on a gate.
+
+ghost use Rattle.std.specs.Prelude.{◌≡◌, ◌<◌, ℕ, false, replicate};
+ghost use Rattle.gate_entries.specs.Entry.{IsEntry};
+ghost use Rattle.gate_model.specs.Gate.{IsGate, HasRoom, model_of, entry_of};
+ghost use Rattle.gate_model.specs.Lawful.{IsSound, most_entries};
+
+use crate::entries::{entry_octets, nth};
+use crate::rules::rules_of;
+use gate_entries::{Passing, Recorded, read_entry};
+use gate_model::{Gate, Ready, Refusal, Reply, Totals};
+use kn_base::{Memory, Octets};
+use line_cases::{cut_at, cut_item, numbers_of, put_named};
+use std::alloc::Global;
+
+/// The first time that no clock reads.
+const END_OF_TIME: u64 = 1 << 37;
+
+/// Puts the counts last that aren't always 0.
+pub(crate) fn put_totals(report: &mut Octets, totals: Totals) -> Result<(), Memory> {
+    put_named(report, b"accepted ", totals.accepted)?;
+    put_named(report, b" acked ", totals.acked)?;
+    put_named(report, b" rejected ", totals.rejected)?;
+    put_named(report, b" waiting ", totals.waiting)?;
+    put_named(report, b" unmatched ", totals.unmatched)?;
+    put_named(report, b" arrived ", totals.arrived)?;
+    put_named(report, b" arrivals ", totals.arrivals)?;
+    put_named(report, b" entries ", totals.entries)
+}
+
+fn put_reply(report: &mut Octets, reply: Reply) -> Result<(), Memory> {
+    match reply {
+        Reply::Accepted {
+            first,
+            count,
+            queued,
+        } => {
+            put_named(report, b"accepted ", u64::from(count))?;
+            put_named(report, b" from ", first)?;
+            report.extend_from_slice(if queued { b" queued" } else { b"" })
+        }
+        Reply::Noted { matched } => {
+            report.extend_from_slice(if matched { b"noted" } else { b"unmatched" })
+        }
+    }
+}
+
+fn put_refusal(report: &mut Octets, refusal: Refusal) -> Result<(), Memory> {
+    match refusal {
+        Refusal::NoRoute { part } => put_named(report, b"no route for part ", u64::from(part)),
+        Refusal::Full { held, limit } => {
+            put_named(report, b"full with ", held)?;
+            put_named(report, b" of ", limit)
+        }
+        Refusal::Disk => report.extend_from_slice(b"disk"),
+        Refusal::Memory => report.extend_from_slice(b"memory"),
+    }
+}
+
+fn put_number(report: &mut Octets, number: Option<u64>) -> Result<(), Memory> {
+    match number {
+        Some(number) => put_named(report, b"message ", number),
+        None => report.extend_from_slice(b"none"),
+    }
+}
+
+/// Hands a gate an entry for which it has room.
+fn put_applied(gate: &mut Gate, ready: Ready, report: &mut Octets) -> Result<(), Memory>
+    requires whole { IsGate gate.old }
+    requires room { HasRoom gate.old (entry_of ready) }
+    requires few { (model_of gate.old).entries < most_entries }
+    requires sound { IsSound (model_of gate.old) (entry_of ready) }
+    ensures { IsGate gate.new }
+{
+    let reply = gate.apply(ready);
+    put_reply(report, reply)
+}
+
+/// Prepares a sound entry, and hands it to a gate.
+fn put_prepared(gate: &mut Gate, entry: Recorded, report: &mut Octets) -> Result<(), Memory>
+    requires whole { IsGate gate.old }
+    requires few { (model_of gate.old).entries < most_entries }
+    requires sound { IsSound (model_of gate.old) entry }
+    ensures { IsGate gate.new }
+{
+    match gate.prepare(entry, 1) {
+        Ok(ready) => put_applied(gate, ready, report),
+        Err((_, Memory)) => Err(Memory),
+    }
+}
+
+/// Hands a gate an entry, unless it is refused or unsound.
+fn put_recorded(gate: &mut Gate, entry: Recorded, report: &mut Octets) -> Result<(), Memory>
+    requires whole { IsGate gate.old }
+    requires spelled { IsEntry entry }
+    ensures { IsGate gate.new }
+{
+    if let Err(refusal) = gate.check(&entry) {
+        return put_refusal(report, refusal);
+    }
+    if !gate.suits(&entry) {
+        return report.extend_from_slice(b"unsound");
+    }
+    put_prepared(gate, entry, report)
+}
+
+/// Hands a gate the entry of an act.
+fn put_entry(alloc: Global, gate: &mut Gate, act: &[u8], report: &mut Octets) -> Result<(), Memory>
+    requires { IsGate gate.old }
+    ensures { IsGate gate.new }
+{
+    let octets = entry_octets(alloc, act)?;
+    match read_entry(alloc, octets.as_slice()) {
+        Ok(entry) => put_recorded(gate, entry, report),
+        Err(_) => report.extend_from_slice(b"no entry"),
+    }
+}
+
+/// The message that a link takes.
+fn take(gate: &mut Gate, link: u32, now: u64) -> Option<u64>
+    requires { IsGate gate.old }
+    ensures { IsGate gate.new }
+{
+    if now >= END_OF_TIME {
+        return None;
+    }
+    let message = gate.next_for(link, now)?;
+    gate.pass(Passing::Took {
+        link,
+        message,
+        time: now,
+    });
+    Some(message)
+}
+
+/// Gives a message back that a link has taken.
+fn give_back(gate: &mut Gate, message: u64)
+    requires { IsGate gate.old }
+    ensures { IsGate gate.new }
+{
+    if gate.leased(message) {
+        gate.pass(Passing::Returned { message });
+    }
+}
+
+/// Does an act, and puts last what it came to.
+fn put_act(alloc: Global, gate: &mut Gate, act: &[u8], report: &mut Octets) -> Result<(), Memory>
+    requires { IsGate gate.old }
+    ensures { IsGate gate.new }
+{
+    let (kind, rest) = cut_at(act, b' ');
+    let numbers = numbers_of(alloc, rest)?;
+    let first = nth(numbers.as_slice(), 0);
+    let link = first.min(100) as u32;
+    let now = nth(numbers.as_slice(), 1);
+    if kind == b"totals".as_slice() {
+        put_totals(report, gate.totals())
+    } else if kind == b"next".as_slice() {
+        put_number(report, gate.next_for(link, now))
+    } else if kind == b"take".as_slice() {
+        put_number(report, take(gate, link, now))
+    } else if kind == b"back".as_slice() {
+        give_back(gate, first);
+        report.extend_from_slice(b"back")
+    } else {
+        put_entry(alloc, gate, act, report)
+    }
+}
+
+/// Does acts, and puts a bar behind what each came to.
+fn put_acts(alloc: Global, gate: Gate, acts: &[u8], report: &mut Octets) -> Result<(), Memory>
+    requires { IsGate gate }
+{
+    let mut gate = gate;
+    let mut rest = acts;
+    for _ in 0..acts.len() {
+        if rest.is_empty() {
+            break;
+        }
+        let (act, behind) = cut_item(rest);
+        rest = behind;
+        put_act(alloc, &mut gate, act, report)?;
+        report.extend_from_slice(b" | ")?;
+    }
+    Ok(())
+}
+
+/// The first link is up, where there is one, and where it is to be.
+fn with_link(gate: Gate, is_up: bool) -> Gate
+    requires whole { IsGate gate }
+    requires down { (rest : ℕ) × ((model_of gate).up ≡ replicate rest false) }
+    ensures { IsGate result }
+{
+    let mut gate = gate;
+    if is_up && gate.rules().links.len() > 0 {
+        gate.pass(Passing::Up { link: 0 });
+    }
+    gate
+}
+
+/// What the acts of a line come to.
+pub(crate) fn put_gate(alloc: Global, line: &[u8], report: &mut Octets) -> Result<(), Memory> {
+    let (head, acts) = cut_item(line);
+    let numbers = numbers_of(alloc, head)?;
+    let limits = (nth(numbers.as_slice(), 1), nth(numbers.as_slice(), 2));
+    let rules = rules_of(alloc, nth(numbers.as_slice(), 0), limits)?;
+    match Gate::new(alloc, rules) {
+        Ok(gate) => {
+            let is_up = nth(numbers.as_slice(), 3) == 0;
+            put_acts(alloc, with_link(gate, is_up), acts, report)
+        }
+        Err((_, Memory)) => Err(Memory),
+    }
+}

@@ -1,0 +1,50 @@
+//! Rules of links without lists.
+
+ghost use Rattle.std.specs.Prelude.{◌≤◌, length, IfOk};
+
+use kn_base::{Items, Memory, Octets};
+use route_rules::{LinkKind, LinkRule, Rules};
+use std::alloc::Global;
+
+/// The most links of a case.
+const MOST_LINKS: usize = 8;
+
+fn link_rule(alloc: Global) -> LinkRule {
+    LinkRule {
+        id: Octets::new(alloc),
+        kind: LinkKind::Smpp,
+        denied_ids: Items::new(alloc),
+        allowed_ids: Items::new(alloc),
+        preferred_ids: Items::new(alloc),
+        denied_prefixes: Items::new(alloc),
+        allowed_prefixes: Items::new(alloc),
+        preferred_prefixes: Items::new(alloc),
+    }
+}
+
+/// So many links, and no more than a case has.
+fn links_of(alloc: Global, count: u64) -> Result<Items<LinkRule>, Memory>
+    ensures { IfOk result (λ links. length links ≤ 8) }
+{
+    let mut links = Items::new(alloc);
+    for _ in 0..count {
+        if links.len() >= MOST_LINKS {
+            break;
+        }
+        links.push(link_rule(alloc))?;
+    }
+    Ok(links)
+}
+
+/// Rules of so many links, and with these limits.
+pub(crate) fn rules_of(alloc: Global, links: u64, limits: (u64, u64)) -> Result<Rules, Memory>
+    ensures { IfOk result (λ rules. length rules.links ≤ 8) }
+{
+    let links = links_of(alloc, links)?;
+    let (outgoing, incoming) = limits;
+    Ok(Rules {
+        links,
+        outgoing,
+        incoming,
+    })
+}
