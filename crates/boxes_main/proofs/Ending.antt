@@ -218,6 +218,6 @@ module _
         made = subst (λ (d : Option D). MakesFor d before after) (sym shown.handed_back) (subst (λ s. MakesFor (Some shown.after) before s) (sym shows.stock) opens.opens.made);
         comes_to = subst (λ f. ComesToShow course files shelf_faults tells contents faults name old new before disk f) (sym shows.failed)
             (shows_by disk shows.fault (subst (λ s. IsConfigured files shelf_faults name old.shelf s settings) (sym shelf) opens.configured)
-            (subst (λ (o : O). IsShown tells contents faults (before.disks settings.core.store_file) before.word (course o) (course new.output) disk shows.fault)
+            (subst (λ (o : O). IsShown tells contents faults (before.disks settings.core.store_file) before.word settings.rules (course o) (course new.output) disk shows.fault)
             (ap (λ r. r.output) opens.others) shown));
       }
