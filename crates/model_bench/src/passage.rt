@@ -1,0 +1,177 @@
+//! The way of messages through a gate.
+
+ghost use Rattle.std.specs.Prelude.{◌≡◌, ◌∷◌, [], false, IfSome};
+ghost use Rattle.gate_entries.specs.Entry.{IsEntry};
+ghost use Rattle.gate_model.specs.Gate.{IsGate, model_of};
+
+use crate::message::NOW;
+use crate::rules::rules;
+use gate_entries::{Acked, Passing, Recorded, read_entry};
+use gate_model::Gate;
+use kn_base::Octets;
+use std::alloc::Global;
+
+/// The birth of the store.
+pub(crate) const BIRTH: u64 = 1;
+
+/// The one link.
+const LINK: u32 = 0;
+
+/// How many messages the link has in flight at most.
+const WINDOW: usize = 10;
+
+/// The messages that the link has taken, in the places where it took them.
+type Window = [Option<u64>; WINDOW];
+
+/// A gate with one link, which is down.
+pub(crate) fn born(alloc: Global) -> Option<Gate>
+    ensures whole { IfSome result (λ gate. IsGate gate) }
+    ensures down { IfSome result (λ gate. (model_of gate).up ≡ false ∷ []) }
+{
+    match Gate::new(alloc, rules(alloc).ok()?) {
+        Ok(gate) => Some(gate),
+        Err(_) => None,
+    }
+}
+
+/// Hands a gate an entry, and says whether it took it.
+fn put_entry(gate: &mut Gate, entry: Recorded) -> bool
+    requires whole { IsGate gate.old }
+    requires spelled { IsEntry entry }
+    ensures whole { IsGate gate.new }
+    ensures up { (model_of gate.new).up ≡ (model_of gate.old).up }
+{
+    if gate.check(&entry).is_err() || !gate.suits(&entry) {
+        return false;
+    }
+    match gate.prepare(entry, BIRTH) {
+        Ok(ready) => {
+            let _ = gate.apply(ready);
+            true
+        }
+        Err(_) => false,
+    }
+}
+
+/// Hands a gate the entry that a payload is, and says whether it took it.
+fn put_payload(alloc: Global, gate: &mut Gate, payload: &[u8]) -> bool
+    requires { IsGate gate.old }
+    ensures whole { IsGate gate.new }
+    ensures up { (model_of gate.new).up ≡ (model_of gate.old).up }
+{
+    match read_entry(alloc, payload) {
+        Ok(entry) => put_entry(gate, entry),
+        Err(_) => false,
+    }
+}
+
+/// Hands a gate an entry so many times, and says whether it took each.
+pub(crate) fn accept_all(alloc: Global, gate: &mut Gate, payload: &[u8], count: u64) -> bool
+    requires { IsGate gate.old }
+    ensures whole { IsGate gate.new }
+    ensures up { (model_of gate.new).up ≡ (model_of gate.old).up }
+{
+    for _ in 0..count {
+        if !put_payload(alloc, gate, payload) {
+            return false;
+        }
+    }
+    true
+}
+
+/// The link is up.
+pub(crate) fn bring_up(gate: &mut Gate)
+    requires whole { IsGate gate.old }
+    requires down { (model_of gate.old).up ≡ false ∷ [] }
+    ensures { IsGate gate.new }
+{
+    gate.pass(Passing::Up { link: LINK });
+}
+
+/// The link takes the next message, where there is one.
+fn take(gate: &mut Gate) -> Option<u64>
+    requires { IsGate gate.old }
+    ensures { IsGate gate.new }
+{
+    let message = gate.next_for(LINK, NOW)?;
+    gate.pass(Passing::Took {
+        link: LINK,
+        message,
+        time: NOW,
+    });
+    Some(message)
+}
+
+/// The centre took a message of the window, where there is one. Whether it is so is said.
+fn acknowledge(alloc: Global, gate: &mut Gate, taken: Option<u64>) -> bool
+    requires { IsGate gate.old }
+    ensures { IsGate gate.new }
+{
+    match taken {
+        Some(message) => {
+            let acked = Acked {
+                message,
+                smsc: Octets::new(alloc),
+                foreign: Octets::new(alloc),
+                time: NOW,
+            };
+            put_entry(gate, Recorded::Acked(acked))
+        }
+        None => true,
+    }
+}
+
+/// The link takes each of so many messages, and the oldest in its window is acknowledged before it takes another.
+pub(crate) fn acknowledge_all(alloc: Global, gate: &mut Gate, count: u64) -> bool
+    requires { IsGate gate.old }
+    ensures { IsGate gate.new }
+{
+    let mut window: Window = [None; WINDOW];
+    for turn in 0..count.saturating_add(WINDOW as u64) {
+        let place = (turn % WINDOW as u64) as usize;
+        if !acknowledge(alloc, gate, window[place]) {
+            return false;
+        }
+        window[place] = take(gate);
+    }
+    true
+}
+
+/// The link fills its window.
+fn fill(gate: &mut Gate) -> Window
+    requires { IsGate gate.old }
+    ensures { IsGate gate.new }
+{
+    let mut window: Window = [None; WINDOW];
+    for place in 0..WINDOW {
+        window[place] = take(gate);
+    }
+    window
+}
+
+/// The messages of a window are acknowledged in this order of their places: 3, 0, 7, 4, 1, 8, 5, 2, 9, 6.
+fn empty(alloc: Global, gate: &mut Gate, window: &Window) -> bool
+    requires { IsGate gate.old }
+    ensures { IsGate gate.new }
+{
+    for turn in 0..WINDOW {
+        if !acknowledge(alloc, gate, window[(7 * turn + 3) % WINDOW]) {
+            return false;
+        }
+    }
+    true
+}
+
+/// The link takes each of so many messages, and its window is acknowledged, in another order, each time that it is full.
+pub(crate) fn acknowledge_shuffled(alloc: Global, gate: &mut Gate, count: u64) -> bool
+    requires { IsGate gate.old }
+    ensures { IsGate gate.new }
+{
+    for _ in 0..count / WINDOW as u64 + 1 {
+        let window = fill(gate);
+        if !empty(alloc, gate, &window) {
+            return false;
+        }
+    }
+    true
+}
