@@ -5,6 +5,13 @@ use Rattle.store_disk.specs.declared.area.Area.{Area}
 use Rattle.store_disk.specs.declared.area.Area.TheVariants.{A, B, Pick}
 use Rattle.store_disk.specs.declared.disk.DiskFailed.{DiskFailed}
 
+-- two names are of one area
+abbrev pub same_area : Area → Area → Bool
+same_area A A = true
+same_area B B = true
+same_area Pick Pick = true
+same_area area other = false
+
 -- the octets of the three areas
 pub record Areas : Type 0 where
   pub a : List ℕ
