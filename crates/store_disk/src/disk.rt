@@ -1,8 +1,9 @@
-//! What the store asks of a disk: four calls on three areas, what they do and when they may fail.
+//! What the store asks of a disk: five calls on three areas, what they do and when they may fail.
 
-ghost use Rattle.std.specs.Prelude.{◌≡◌, ◌<◌, ◌≤◌, ◌+◌, ℕ, Bool, true, false, length, IfOk, OnOk, OnErr};
+ghost use Rattle.std.specs.Prelude.{◌≡◌, ◌<◌, ◌≤◌, ◌+◌, ℕ, Bool, length, IfOk, OnOk};
 ghost use Rattle.std.specs.Bool.{OnTrue};
-ghost use Rattle.store_disk.specs.Disk.{Areas, CountsCall, IsWithin, OthersStay, Reads, Synced, after_write, octets_of, with_synced};
+ghost use Rattle.store_disk.specs.Disk.{CountsCall, IsWithin, Reads, octets_of};
+ghost use Rattle.store_disk.specs.Story.{Story, Cuts, Syncs, Writes, reads};
 
 use crate::Area;
 
@@ -15,15 +16,12 @@ pub struct DiskFailed;
 
 /// Three areas of octets. Each call counts, and fails only where the disk's count of faults rose.
 pub trait Disk {
-    /// Whether disks of this type tell what their areas hold. One of real files doesn't.
+    /// Whether disks of this type tell their story. One of real files doesn't.
     ghost tells: { Bool };
 
-    /// What the areas hold. It means something only where it is told.
-    ghost contents: { Self → Areas };
-
-    /// Whether all that was written to an area was synced since, by a good sync. It means something only where
-    /// contents are told.
-    ghost synced: { Self → Synced };
+    /// What was done to the areas. What they read as, and what a stop may leave of them, follows from it. It means something only where it
+    /// is told.
+    ghost story: { Self → Story };
 
     /// How often the disk has failed.
     ghost faults: { Self → ℕ };
@@ -34,33 +32,33 @@ pub trait Disk {
     /// The number of octets in an area.
     fn size(&mut self, area: Area) -> Result<u64, DiskFailed>
         ensures counted { CountsCall (calls self.old) (calls self.new) (faults self.old) (faults self.new) result }
-        ensures kept { contents self.new ≡ contents self.old }
-        ensures kept_synced { synced self.new ≡ synced self.old }
-        ensures size { IfOk result (λ size. OnTrue tells (size ≡ length (octets_of (contents self.old) area))) };
+        ensures kept { story self.new ≡ story self.old }
+        ensures size { IfOk result (λ size. OnTrue tells (size ≡ length (octets_of (reads (story self.old)) area))) };
 
     /// Fills `into` with the octets of an area from `at` on, which is in octets.
     fn read(&mut self, area: Area, at: u64, into: &mut [u8]) -> Result<(), DiskFailed>
-        requires { OnTrue tells (IsWithin (contents self.old) area (at + length into.old)) }
+        requires { OnTrue tells (IsWithin (reads (story self.old)) area (at + length into.old)) }
         ensures counted { CountsCall (calls self.old) (calls self.new) (faults self.old) (faults self.new) result }
-        ensures kept { contents self.new ≡ contents self.old }
-        ensures kept_synced { synced self.new ≡ synced self.old }
-        ensures read { OnOk result (OnTrue tells (Reads (contents self.old) area at into.new)) };
+        ensures kept { story self.new ≡ story self.old }
+        ensures read { OnOk result (OnTrue tells (Reads (reads (story self.old)) area at into.new)) };
 
     /// Writes octets over an area from `at` on, and past its end. A write that would end past `LAST_END` fails. After a
-    /// fault nothing is said of what this area holds, but the others hold what they held.
+    /// fault any octets may stand in its range; the rest of the area, and the others, are as they were.
     fn write_at(&mut self, area: Area, at: u64, bytes: &[u8]) -> Result<(), DiskFailed>
         requires some { 0 < length bytes.now }
-        requires inside { OnTrue tells (IsWithin (contents self.old) area at) }
+        requires inside { OnTrue tells (IsWithin (reads (story self.old)) area at) }
         ensures counted { CountsCall (calls self.old) (calls self.new) (faults self.old) (faults self.new) result }
-        ensures written { OnOk result (OnTrue tells (contents self.new ≡ after_write area at bytes.now (contents self.old))) }
-        ensures others { OnTrue tells (OthersStay area (contents self.old) (contents self.new)) }
-        ensures unsynced { OnTrue tells (synced self.new ≡ with_synced (synced self.old) area false) }
+        ensures written { OnTrue tells (Writes area at bytes.now result (story self.old) (story self.new)) }
         ensures end { OnOk result (at + length bytes.now ≤ LAST_END) };
 
-    /// Puts what was written to an area where a stop leaves it.
+    /// Cuts an area to a size in octets. After a fault it has some length between.
+    fn cut(&mut self, area: Area, size: u64) -> Result<(), DiskFailed>
+        requires inside { OnTrue tells (IsWithin (reads (story self.old)) area size) }
+        ensures counted { CountsCall (calls self.old) (calls self.new) (faults self.old) (faults self.new) result }
+        ensures cut { OnTrue tells (Cuts area size result (story self.old) (story self.new)) };
+
+    /// Puts what was done to an area where a stop leaves it.
     fn sync(&mut self, area: Area) -> Result<(), DiskFailed>
         ensures counted { CountsCall (calls self.old) (calls self.new) (faults self.old) (faults self.new) result }
-        ensures kept { contents self.new ≡ contents self.old }
-        ensures synced { OnOk result (OnTrue tells (synced self.new ≡ with_synced (synced self.old) area true)) }
-        ensures unsynced { OnErr result (synced self.new ≡ synced self.old) };
+        ensures synced { OnTrue tells (Syncs area result (story self.old) (story self.new)) };
 }
