@@ -1,13 +1,20 @@
 -- What a journal keeps, and what its calls answer.
 use Rattle.std.specs.Prelude.{◌≡◌, ◌<◌, ◌≤◌, ◌-◌, ◌^◌, ℕ, Bool, false, List, [], ◌∷◌, ◌++◌, length, take, drop, All, Option, Some, None, Result, Ok, Err}
 use Rattle.std.specs.Bool.{OnTrue}
-use Rattle.store_disk.specs.Disk.{Areas, after_write, Synced, all_synced}
+use Rattle.store_disk.specs.Disk.{Areas}
+use Rattle.store_disk.specs.Story.{Story, IsImage, LeavesOnly}
+use Rattle.store_disk.specs.declared.disk.DiskFailed.{DiskFailed}
 use Rattle.store_journal.specs.Area.{Standing, unborn, born, foreign, stands, gate_place, unit, payloads_in, IsPayload, IsStored}
 use Rattle.store_disk.specs.declared.area.Area.{Area}
 use Rattle.store_disk.specs.declared.area.Area.TheVariants.{A}
 use Rattle.store_journal.specs.declared.fault.OpenFault.{OpenFault}
 use Rattle.store_journal.specs.declared.fault.OpenFault.TheVariants.{Foreign, Disk, Memory}
 use Rattle.store_journal.specs.declared.journal.Journal.{Journal}
+
+-- areas stand for these payloads, or, where one is unsure, for these with it behind them
+abbrev pub MayHold : ℕ → Area → List (List ℕ) → Option (List ℕ) → Areas → Type 0
+MayHold birth area payloads None areas = stands areas ≡ born birth area payloads
+MayHold birth area payloads (Some unsure) areas = (stands areas ≡ born birth area payloads) ⊎ (stands areas ≡ born birth area (payloads ++ unsure ∷ []))
 
 module _ {D : Type 0} where
   -- the disk of a journal
@@ -22,9 +29,9 @@ module _ {D : Type 0} where
   abbrev pub birth_of : Journal D → ℕ
   birth_of journal = journal.birth
 
-  -- a call of the journal's disk has failed since the opening
-  abbrev pub is_broken : Journal D → Bool
-  is_broken journal = journal.broken
+  -- the gate of the payload that the last append wrote may stand open
+  abbrev pub is_unsure : Journal D → Bool
+  is_unsure journal = journal.unsure
 
   -- the payloads that are still to be handed out
   abbrev pub left : Journal D → List (List ℕ)
@@ -34,15 +41,18 @@ module _ {D : Type 0} where
   abbrev pub IsHandedOut : Journal D → Type 0
   IsHandedOut journal = left journal ≡ []
 
+  -- the place of the gate of the payload that was handed out last, of the first one before that, and of the closed gate behind the last
+  abbrev pub gate_of : Journal D → ℕ
+  gate_of journal = journal.gate
+
   -- the payload that the next append appends, empty where none is reserved
   abbrev pub reserved : Journal D → List ℕ
   reserved journal = take (length journal.unit.items - 6) (drop 5 journal.unit.items)
 
-  -- The journal holds these payloads: it isn't broken, what is left to hand out is the end of them, and its disk
-  -- stands for them, where contents are told.
-  pub record IsJournal (tells : Bool) (contents : D → Areas) (journal : Journal D) (birth : ℕ) (payloads : List (List ℕ)) : Type 0 where
+  -- The journal holds these payloads, and one more may stand behind them where one is unsure: what is left to hand out is the end of them,
+  -- its disk reads as them, and so does whatever a stop leaves.
+  pub record IsJournal (tells : Bool) (story : D → Story) (journal : Journal D) (birth : ℕ) (payloads : List (List ℕ)) (unsure : Option (List ℕ)) : Type 0 where
     pub handed : List (List ℕ)
-    pub whole : journal.broken ≡ false
     pub born : journal.birth ≡ birth
     pub small : birth < 2 ^ 64
     pub sizes : All IsPayload payloads
@@ -51,40 +61,45 @@ module _ {D : Type 0} where
     pub end : journal.end ≡ gate_place payloads
     pub ready : 0 < length (reserved journal) → journal.unit.items ≡ unit (reserved journal) ++ 0 ∷ []
     pub fits : 0 < length (reserved journal) → IsPayload (reserved journal)
-    pub stored : OnTrue tells (IsStored (contents journal.disk) journal.area birth payloads)
+    pub doubt : journal.unsure ≡ is_some unsure
+    -- what the past of the areas is, from which follows that each image now may hold the payloads (the helper's to word: see below)
+    pub kept : OnTrue tells (IsKeptBy (story journal.disk) journal.area birth payloads unsure)
 
   -- the journal holds some payloads
-  abbrev pub IsKept : Bool → (D → Areas) → Journal D → Type 0
-  IsKept tells contents journal = (birth : ℕ) × (payloads : List (List ℕ)) × IsJournal tells contents journal birth payloads
+  abbrev pub IsKept : Bool → (D → Story) → Journal D → Type 0
+  IsKept tells story journal = (birth : ℕ) × (payloads : List (List ℕ)) × (unsure : Option (List ℕ)) × IsJournal tells story journal birth payloads unsure
 
-  -- whatever payloads the journal held, it holds them with more behind them
-  abbrev pub HoldsMore : Bool → (D → Areas) → Journal D → Journal D → List (List ℕ) → Type 0
-  HoldsMore tells contents old new more =
-      (birth : ℕ) (payloads : List (List ℕ)) → IsJournal tells contents old birth payloads → IsJournal tells contents new birth (payloads ++ more)
+  -- whatever the journal held, it still holds
+  abbrev pub HoldsSame : Bool → (D → Story) → Journal D → Journal D → Type 0
+  HoldsSame tells story old new =
+      (birth : ℕ) (payloads : List (List ℕ)) (unsure : Option (List ℕ)) → IsJournal tells story old birth payloads unsure → IsJournal tells story new birth payloads unsure
 
-  -- whatever payloads the journal held, it still holds
-  abbrev pub HoldsSame : Bool → (D → Areas) → Journal D → Journal D → Type 0
-  HoldsSame tells contents old new =
-      (birth : ℕ) (payloads : List (List ℕ)) → IsJournal tells contents old birth payloads → IsJournal tells contents new birth payloads
+  -- An append to a journal in which nothing was unsure: after Ok its payload stands last, and else it stands nowhere, or it is unsure. A stop
+  -- on the way leaves the payloads without it or with it.
+  pub record Appends {T : Type 0} (tells : Bool) (story : D → Story) (old new : Journal D) (result : Result T DiskFailed) (birth : ℕ) (payloads : List (List ℕ)) : Type 0 where
+    pub ok : OnOk result (IsJournal tells story new birth (payloads ++ reserved old ∷ []) None)
+    pub failed : OnErr result (IsJournal tells story new birth payloads (if is_unsure new then Some (reserved old) else None))
+    pub stops : OnTrue tells (LeavesOnly (story (disk_of old)) (story (disk_of new)) (MayHold birth (area_of old) payloads (Some (reserved old))))
 
-  -- The picked area is written over at the place of its closed gate, with the reserved payload in its unit and the
-  -- next closed gate. All else stays.
-  abbrev pub AppendsUnit : Bool → (D → Areas) → Journal D → Journal D → Type 0
-  AppendsUnit tells contents old new =
-      (birth : ℕ) (payloads : List (List ℕ)) → IsJournal tells contents old birth payloads
-      → OnTrue tells (contents (disk_of new) ≡ after_write (area_of old) (gate_place payloads) (unit (reserved old) ++ 0 ∷ []) (contents (disk_of old)))
+  -- A repair: after Ok nothing is unsure, and else what was still is. A stop on the way leaves what one before it left.
+  pub record Repairs {T : Type 0} (tells : Bool) (story : D → Story) (old new : Journal D) (result : Result T DiskFailed) (birth : ℕ) (payloads : List (List ℕ)) (unsure : Option (List ℕ)) : Type 0 where
+    pub ok : OnOk result (IsJournal tells story new birth payloads None)
+    pub failed : OnErr result (IsJournal tells story new birth payloads unsure)
+    pub stops : OnTrue tells (LeavesOnly (story (disk_of old)) (story (disk_of new)) (MayHold birth (area_of old) payloads unsure))
+
+-- areas stand for what others stood for, or a store that wasn't born is born, without payloads
+abbrev pub IsLike : Standing → Standing → Type 0
+IsLike before now = (now ≡ before) ⊎ ((before ≡ unborn) × (birth : ℕ) × (area : Area) × (now ≡ born birth area []))
+
+-- A stop in an opening leaves what a stop before it left, but for a birth.
+abbrev pub OpensOver : Story → Story → Type 0
+OpensOver old new = LeavesOnly old new (λ image. (before : Areas) × IsImage old before × IsLike (stands before) (stands image))
 
 -- what an opening of areas that stand so finds: the birth, the area and the payloads, none where the store is born with this birth
 abbrev pub OpensAs : Standing → ℕ → ℕ → Area → List (List ℕ) → Type 0
 OpensAs unborn birth now area payloads = (now ≡ birth) × (area ≡ A) × (payloads ≡ [])
 OpensAs (born old stood_in stood) birth now area payloads = (now ≡ old) × (area ≡ stood_in) × (payloads ≡ stood)
 OpensAs (foreign stood_in at) birth now area payloads = ⊥
-
--- which areas are synced after an opening of areas that stand so: all of them after a birth, and else as before
-abbrev pub synced_after : Standing → Synced → Synced
-synced_after unborn synced = all_synced
-synced_after (born birth area payloads) synced = synced
-synced_after (foreign area at) synced = synced
 
 -- an opening answers Foreign only where the areas are, in that area at that place
 abbrev pub IsCause : Areas → OpenFault → Type 0

@@ -29,163 +29,97 @@ pub struct Journal<D: Disk> {
     end: u64,
     // The reserved payload in its unit, with the closed gate behind it. It is empty where none is reserved.
     unit: Vec<u8>,
-    broken: bool,
+    // The place of the gate of the payload that `next` gave last.
+    gate: u64,
+    // The gate at `end` may stand open before a payload whose append failed.
+    unsure: bool,
 }
 
 impl<D: Disk> Journal<D> {
-    /// Opens the store on a disk, with all its payloads still to be handed out. A store that isn't born
-    /// is born with `birth`, and then all its areas are synced. `Foreign` comes where the areas are no store of
-    /// ours, and leaves them; `Disk` comes only where the disk counted a fault. Each fault gives the disk back.
+    /// Opens the store on a disk, with all its payloads still to be handed out. Each area is synced first, so that what was read stands
+    /// whatever a stop leaves. A store that isn't born is born with `birth`. `Foreign` comes where the areas are no store of
+    /// ours, and leaves what they read as; `Disk` comes only where the disk counted a fault. Each fault gives the disk back.
     pub fn open(alloc: Global, disk: D, birth: u64) -> Result<Journal<D>, (D, OpenFault)>
-        ensures opened { IfOk result (λ journal. IsJournal D.tells D.contents journal (birth_of journal) (left journal)) }
-        ensures kept { IfOk result (IsKept D.tells D.contents) }
+        ensures opened { IfOk result (λ journal. IsJournal D.tells D.story journal (birth_of journal) (left journal) None) }
         ensures unreserved { IfOk result (λ journal. reserved journal ≡ []) }
         ensures stood { IfOk result (λ journal. OnTrue D.tells
-            (OpensAs (stands (D.contents disk)) birth (birth_of journal) (area_of journal) (left journal))) }
-        ensures synced { IfOk result (λ journal. OnTrue D.tells
-            (D.synced (disk_of journal) ≡ synced_after (stands (D.contents disk)) (D.synced disk))) }
+            (OpensAs (stands (reads (D.story disk))) birth (birth_of journal) (area_of journal) (left journal))) }
+        ensures gate { IfOk result (λ journal. gate_of journal ≡ 16) }
+        ensures stops { IfOk result (λ journal. OnTrue D.tells (OpensOver (D.story disk) (D.story (disk_of journal)))) }
+        ensures stops_back { IfErr result (λ fault. OnTrue D.tells (OpensOver (D.story disk) (D.story fault.0))) }
+        ensures untouched { IfOk result (λ journal. OnTrue D.tells (IsUntouched (reads (D.story disk)) (reads (D.story (disk_of journal))))) }
+        ensures untouched_back { IfErr result (λ fault. OnTrue D.tells (IsUntouched (reads (D.story disk)) (reads (D.story fault.0)))) }
+        ensures unchanged { IfErr result (λ fault. IsUnlessDisk fault.1 (reads (D.story fault.0) ≡ reads (D.story disk))) }
+        ensures cause { IfErr result (λ fault. OnTrue D.tells (IsCause (reads (D.story disk)) fault.1)) }
         ensures unfailed { IfOk result (λ journal. D.faults (disk_of journal) ≡ D.faults disk) }
-        ensures calls { IfOk result (λ journal. D.calls (disk_of journal) ≤ D.calls disk + 10) }
-        ensures cause { IfErr result (λ fault. OnTrue D.tells (IsCause (D.contents disk) fault.1)) }
-        ensures untouched { IfOk result (λ journal. OnTrue D.tells (IsUntouched (D.contents disk) (D.contents (disk_of journal)))) }
-        ensures untouched_back { IfErr result (λ fault. OnTrue D.tells (IsUntouched (D.contents disk) (D.contents fault.0))) }
-        ensures unchanged { IfErr result (λ fault. IsUnlessDisk fault.1 (D.contents fault.0 ≡ D.contents disk)) }
         ensures spared { IfErr result (λ fault. IsUnlessDisk fault.1 (D.faults fault.0 ≡ D.faults disk)) }
         ensures failed { IfErr result (λ fault. (fault.1 ≡ OpenFault.Disk) → Rose (D.faults disk) (D.faults fault.0)) }
         ensures faults { IfErr result (λ fault. D.faults disk ≤ D.faults fault.0) }
-        ensures calls_back { IfErr result (λ fault. D.calls fault.0 ≤ D.calls disk + 10) }
-    {
-        let mut disk = disk;
-        match load(alloc, &mut disk, birth) {
-            Ok(found) => {
-                let Found {
-                    area,
-                    birth,
-                    octets,
-                    place,
-                    end,
-                } = found;
-                Ok(Journal {
-                    alloc,
-                    disk,
-                    area,
-                    birth,
-                    octets,
-                    place,
-                    end,
-                    unit: Vec::new(alloc),
-                    broken: false,
-                })
-            }
-            Err(fault) => Err((disk, fault)),
-        }
-    }
+        ensures calls { IfOk result (λ journal. D.calls (disk_of journal) ≤ D.calls disk + 13) }
+        ensures calls_back { IfErr result (λ fault. D.calls fault.0 ≤ D.calls disk + 13) }
 
     /// The birth of the store: the number that it was born with.
     pub fn birth(&self) -> u64
         ensures { result ≡ birth_of self.now }
-    {
-        self.birth
-    }
 
-    /// Whether a call of the disk has failed, so that the journal can only be closed.
-    pub fn is_broken(&self) -> bool
-        ensures { result ≡ is_broken self.now }
-    {
-        self.broken
-    }
+    /// The picked area, and the place in it, in octets, of the gate of the payload that `next` gave last: 16 before the first `next`, and the
+    /// closed gate after `None`.
+    pub fn place(&self) -> (Area, u64)
+        ensures { result ≡ (area_of self.now, gate_of self.now) }
+
+    /// Whether the gate of a payload whose append failed may stand open, so that `repair` comes before the next append.
+    pub fn unsure(&self) -> bool
+        ensures { result ≡ is_unsure self.now }
 
     /// The next payload, in order, or `None` behind the last. Only `Memory` is answered here, and it
     /// leaves the place.
     pub fn next(&mut self) -> Result<Option<Octets>, OpenFault>
-        requires { IsKept D.tells D.contents self.old }
+        requires { IsKept D.tells D.story self.old }
         ensures next { Hands (left self.old) result (left self.new) }
         ensures disk { disk_of self.new ≡ disk_of self.old }
         ensures area { area_of self.new ≡ area_of self.old }
+        ensures unsure { is_unsure self.new ≡ is_unsure self.old }
         ensures reserved { reserved self.new ≡ reserved self.old }
-        ensures kept { IsKept D.tells D.contents self.new }
-        ensures same { HoldsSame D.tells D.contents self.old self.new }
-    {
-        let Some((payload, behind)) = first_unit(&self.octets[self.place..])? else {
-            return Ok(None);
-        };
-        let payload = Octets::from_slice(self.alloc, payload)?;
-        self.place = self.octets.len() - behind.len();
-        Ok(Some(payload))
-    }
-
-    /// Appends the reserved payload in one write and one sync of the picked area, and takes no memory. Whatever
-    /// is answered, nothing is reserved then and the other areas are as they were. After a fault the journal is
-    /// broken: it can only be closed. The gate is then closed again, if the disk still takes that, so that a unit
-    /// that a full disk cut short isn't in the way.
-    pub fn append(&mut self) -> Result<(), DiskFailed>
-        requires kept { IsKept D.tells D.contents self.old }
-        requires ended { IsHandedOut self.old }
-        requires reserved { 0 < length (reserved self.old) }
-        ensures holds_more { OnOk result (HoldsMore D.tells D.contents self.old self.new (reserved self.old ∷ [])) }
-        ensures keeps { OnOk result (IsKept D.tells D.contents self.new) }
-        ensures written { OnOk result (AppendsUnit D.tells D.contents self.old self.new) }
-        ensures synced { OnOk result (OnTrue D.tells
-            (D.synced (disk_of self.new) ≡ with_synced (D.synced (disk_of self.old)) (area_of self.old) true)) }
-        ensures others { OnTrue D.tells (ChangesOnly (area_of self.old) (D.contents (disk_of self.old)) (D.contents (disk_of self.new))
-            (D.synced (disk_of self.old)) (D.synced (disk_of self.new))) }
-        ensures ended { IsHandedOut self.new }
-        ensures nothing_reserved { reserved self.new ≡ [] }
-        ensures broken { OnErr result (is_broken self.new ≡ true) }
-        ensures area { area_of self.new ≡ area_of self.old }
-        ensures birth { birth_of self.new ≡ birth_of self.old }
-        ensures calls { D.calls (disk_of self.new) ≤ D.calls (disk_of self.old) + 4 }
-        ensures calls_ok { OnOk result (D.calls (disk_of self.new) ≤ D.calls (disk_of self.old) + 2) }
-        ensures unfailed { OnOk result (D.faults (disk_of self.new) ≡ D.faults (disk_of self.old)) }
-        ensures failed { OnErr result (Rose (D.faults (disk_of self.old)) (D.faults (disk_of self.new))) }
-        ensures faults { D.faults (disk_of self.old) ≤ D.faults (disk_of self.new) }
-    {
-        self.broken = true;
-        if let Err(failed) = write_synced(&mut self.disk, self.area, self.end, &self.unit) {
-            close_gate(&mut self.disk, self.area, self.end);
-            self.unit.clear();
-            return Err(failed);
-        }
-        self.end += self.unit.len() as u64 - 1;
-        self.unit.clear();
-        self.broken = false;
-        Ok(())
-    }
+        ensures kept { IsKept D.tells D.story self.new }
+        ensures same { HoldsSame D.tells D.story self.old self.new }
+        -- and the gate of what was handed out: for any payloads handed ++ left, gate_of self.new is gate_place of those handed before it
 
     /// Makes a payload of 1 to 16,777,216 octets the reserved one, in place of another. All memory for
     /// its append is taken here. After `Memory` what was reserved still is.
     pub fn reserve(&mut self, payload: &[u8]) -> Result<(), Memory>
-        requires kept { IsKept D.tells D.contents self.old }
-        requires size { IsPayload payload.now }
-        ensures ok { OnOk result (reserved self.new ≡ payload.now) }
-        ensures err { OnErr result (reserved self.new ≡ reserved self.old) }
-        ensures left { left self.new ≡ left self.old }
-        ensures disk { disk_of self.new ≡ disk_of self.old }
+        -- as before, with IsKept/HoldsSame over stories, and is_unsure, gate_of as they were
+
+    /// Appends the reserved payload in four disk calls, and takes no memory: its length, its octets and a closed gate behind the closed gate, a sync, the gate
+    /// opened, a sync. Whatever is answered, nothing is reserved then. After a fault of the first two calls the journal is as it was; after one
+    /// of the last two the payload is unsure.
+    pub fn append(&mut self) -> Result<(), DiskFailed>
+        requires kept { IsKept D.tells D.story self.old }
+        requires sure { is_unsure self.old ≡ false }
+        requires ended { IsHandedOut self.old }
+        requires reserved { 0 < length (reserved self.old) }
+        ensures appended { (birth : ℕ) (payloads : List (List ℕ)) → IsJournal D.tells D.story self.old birth payloads None → Appends D.tells D.story self.old self.new result birth payloads }
+        ensures kept { IsKept D.tells D.story self.new }
+        ensures sure { OnOk result (is_unsure self.new ≡ false) }
+        ensures ended { IsHandedOut self.new }
+        ensures nothing_reserved { reserved self.new ≡ [] }
         ensures area { area_of self.new ≡ area_of self.old }
-        ensures kept { IsKept D.tells D.contents self.new }
-        ensures same { HoldsSame D.tells D.contents self.old self.new }
-    {
-        self.unit = unit_and_gate(self.alloc, payload)?;
-        Ok(())
-    }
+        ensures birth { birth_of self.new ≡ birth_of self.old }
+        ensures calls { D.calls (disk_of self.new) ≤ D.calls (disk_of self.old) + 4 }
+        ensures unfailed { OnOk result (D.faults (disk_of self.new) ≡ D.faults (disk_of self.old)) }
+        ensures failed { OnErr result (Rose (D.faults (disk_of self.old)) (D.faults (disk_of self.new))) }
+        ensures faults { D.faults (disk_of self.old) ≤ D.faults (disk_of self.new) }
+
+    /// Closes the unsure gate for good: a write and a sync. Where nothing is unsure it makes no call. After a fault it is still unsure.
+    pub fn repair(&mut self) -> Result<(), DiskFailed>
+        requires kept { IsKept D.tells D.story self.old }
+        ensures repaired { (birth : ℕ) (payloads : List (List ℕ)) (unsure : Option (List ℕ)) → IsJournal D.tells D.story self.old birth payloads unsure → Repairs D.tells D.story self.old self.new result birth payloads unsure }
+        ensures kept { IsKept D.tells D.story self.new }
+        ensures sure { OnOk result (is_unsure self.new ≡ false) }
+        ensures left, reserved, area, birth, gate as they were
+        ensures calls { D.calls (disk_of self.new) ≤ D.calls (disk_of self.old) + 2 }
+        ensures unfailed / failed / faults as at append
 
     /// Ends the journal and gives its disk back.
     pub fn close(self) -> D
         ensures disk { result ≡ disk_of self }
-        ensures stands { (birth : _) (payloads : _) → IsJournal D.tells D.contents self birth payloads →
-            OnTrue D.tells (stands (D.contents result) ≡ born birth (area_of self) payloads) }
-    {
-        let Journal {
-            alloc: _,
-            disk,
-            area: _,
-            birth: _,
-            octets: _,
-            place: _,
-            end: _,
-            unit: _,
-            broken: _,
-        } = self;
-        disk
-    }
 }
