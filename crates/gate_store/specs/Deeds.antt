@@ -1,21 +1,31 @@
--- What the deeds of a session do to a store.
-use Rattle.std.specs.Prelude.{◌≡◌, ℕ, ◌<◌, ◌≤◌, Bool, true, false, List, [], ◌∷◌, ◌++◌, ⊤, Option, Some, None, Result, Ok, Err, is_ok, length, if◌then◌else◌}
+-- What the calls of a store do, by their outcome.
+use Rattle.std.specs.Prelude.{◌≡◌, ◌⊎◌, ℕ, ◌<◌, ◌≤◌, ◌+◌, Bool, true, false, List, [], ◌∷◌, ◌++◌, ⊤, Option, Some, None, Result, Ok, Err, is_ok, length, slice_get, if◌then◌else◌}
+use Rattle.std.specs.Bool.{OnTrue}
+use Rattle.std.specs.Option.{option_map_or}
 use Rattle.std.proofs.Common.{subst}
 use Rattle.kn_base.specs.Count.{Rose}
+use Rattle.gate_entries.specs.declared.cause.Cause.TheVariants.{Expired}
+use Rattle.gate_entries.specs.declared.passing.Passing.{Passing}
+use Rattle.gate_entries.specs.declared.passing.Passing.TheVariants.{Took}
 use Rattle.gate_entries.specs.declared.recorded.Recorded.{Recorded}
 use Rattle.gate_entries.specs.declared.recorded.Recorded.TheVariants as entry
 use Rattle.gate_model.specs.Acceptor.{Deed}
-use Rattle.gate_model.specs.Fold.{does, recorded}
-use Rattle.gate_model.specs.Lawful.{refusal}
+use Rattle.gate_model.specs.Fold.{does, recorded, passing, sms_of}
+use Rattle.gate_model.specs.Lawful.{refusal, has_expired}
+use Rattle.gate_model.specs.Numbers.{value_under}
 use Rattle.gate_model.specs.Replies.{reply_to}
+use Rattle.gate_model.specs.Routing.{next}
 use Rattle.gate_model.specs.State.{State}
 use Rattle.gate_model.specs.declared.reply.Refusal.{Refusal}
 use Rattle.gate_model.specs.declared.reply.Refusal.TheVariants.{NoRoute, Full, Disk, Memory}
 use Rattle.gate_model.specs.declared.reply.Reply.{Reply}
 use Rattle.route_rules.specs.declared.rules.Rules.{Rules}
-use Rattle.store_disk.specs.Disk.{Areas}
-use Rattle.gate_store.specs.Store.{IsStore, disk_in, rules_in, state_in, is_store_broken}
+use Rattle.store_disk.specs.Story.{Story, LeavesOnly}
+use Rattle.gate_store.specs.Reopening.{MayReopenIn}
+use Rattle.gate_store.specs.Store.{IsStore, disk_in, birth_in, rules_in, state_in, unsure_in}
 use Rattle.gate_store.specs.declared.store.Store.{Store}
+use Rattle.gate_store.specs.declared.taken.Taken.{Taken}
+use Rattle.gate_store.specs.declared.taken.Taken.TheVariants as taken
 
 -- the disk failed
 abbrev pub is_disk : Refusal → Bool
@@ -70,19 +80,27 @@ abbrev pub CountsFault : Bool → ℕ → ℕ → Type 0
 CountsFault true before now = Rose before now × (before ≤ now)
 CountsFault false before now = now ≡ before
 
-module _ {D : Type 0} (tells : Bool) (contents : D → Areas) (faults : D → ℕ) where
-  -- One entry on a store that isn't broken. Where it was done its state is what the entry makes of it, and else it is as it was. Unless the
-  -- disk failed, which breaks it, the store gains an entry that was done, and else keeps what it holds.
+-- what may be unsure behind an outcome: nothing behind a reply; where the disk failed, what was before, or nothing, or the entry of this call; and
+-- behind another refusal what was before
+abbrev pub LeavesUnsure : Option Recorded → Recorded → Result Reply Refusal → Option Recorded → Type 0
+LeavesUnsure before kept (Ok reply) now = now ≡ None
+LeavesUnsure before kept (Err Disk) now = (now ≡ before) ⊎ (now ≡ None) ⊎ (now ≡ Some kept)
+LeavesUnsure before kept (Err refusal) now = now ≡ before
+
+module _ {D : Type 0} (tells : Bool) (story : D → Story) (faults calls : D → ℕ) where
+  -- One entry on a store. Where it was done its state is what the entry makes of it and the entry stands last, and else both are as they
+  -- were. Whenever it stopped, its areas reopen to the state before, or to that with the entry that was unsure, or to that with this entry.
   pub record Performs (old : Store D) (kept : Recorded) (outcome : Result Reply Refusal) (new : Store D) : Type 0 where
-    pub whole : is_store_broken old ≡ false
     pub reason : IsReason (rules_in old) (state_in old) kept outcome
     pub ruled : rules_in new ≡ rules_in old
+    pub born : birth_in new ≡ birth_in old
     pub state : state_in new ≡ state_behind (state_in old) kept outcome
-    pub gains : is_by_disk outcome ≡ false
-        → (birth : ℕ) (entries : List Recorded) → IsStore tells contents old birth entries
-        → IsStore tells contents new birth (entries ++ put_behind kept outcome)
-    pub broken : is_store_broken new ≡ is_by_disk outcome
+    pub unsure : LeavesUnsure (unsure_in old) kept outcome (unsure_in new)
+    pub holds : (birth : ℕ) (entries : List Recorded) → IsStore tells story old birth entries
+        → IsStore tells story new birth (entries ++ put_behind kept outcome)
+    pub stops : OnTrue tells (LeavesOnly (story (disk_in old)) (story (disk_in new)) (MayReopenIn (rules_in old) (state_in old) (unsure_in old) kept))
     pub counted : CountsFault (is_by_disk outcome) (faults (disk_in old)) (faults (disk_in new))
+    pub bounded : calls (disk_in new) ≤ calls (disk_in old) + 6
 
   -- one deed
   abbrev pub Does : Store D → Deed → Store D → Type 0
@@ -97,3 +115,47 @@ module _ {D : Type 0} (tells : Bool) (contents : D → Areas) (faults : D → �
   pub Leads-append : (a b c : Store D) (xs ys : List Deed) → Leads a xs b → Leads b ys c → Leads a (xs ++ ys) c
   Leads-append a b c [] ys first then_ = subst (λ s. Leads s ys c) first then_
   Leads-append a b c (deed ∷ xs) ys first then_ = (first.0, first.1, Leads-append first.0 b c xs ys first.2 then_)
+
+  -- An entry that isn't recorded: the state is what it makes of it, and nothing else changes.
+  pub record Passes (old : Store D) (brief : Passing) (new : Store D) : Type 0 where
+    pub ruled : rules_in new ≡ rules_in old
+    pub born : birth_in new ≡ birth_in old
+    pub state : state_in new ≡ does (state_in old) (passing brief)
+    pub unsure : unsure_in new ≡ unsure_in old
+    pub disk : disk_in new ≡ disk_in old
+    pub holds : (birth : ℕ) (entries : List Recorded) → IsStore tells story old birth entries → IsStore tells story new birth entries
+
+  -- ---- the next message of a link
+
+  -- the message that waits under a number has a validity, which has passed
+  abbrev pub is_late : State → (message now : ℕ) → Bool
+  is_late state message now = option_map_or (has_expired now) (value_under message state.waiting) false
+
+  -- the entry by which a message is given up whose validity has passed
+  abbrev pub given_up : List ℕ → (message now : ℕ) → Recorded
+  given_up smsc message now = entry.Rejected (record { message = message; smsc = smsc; cause = Expired; time = now })
+
+  -- the id of a link
+  abbrev pub id_of : Rules → (link : ℕ) → List ℕ
+  id_of rules link = option_map_or (λ rule. rule.id) (slice_get rules.links link) []
+
+  -- What a store answers to a link that asks for its next message, which is this one: where its validity has passed it is given up, and
+  -- else it is taken, and the message handed out.
+  abbrev pub TakesMessage : Store D → (link now message : ℕ) → Result (Option Taken) Refusal → Store D → Type 0
+  TakesMessage old link now message (Ok None) new = ⊥
+  TakesMessage old link now message (Ok (Some (taken.Send number sms))) new =
+      (is_late (state_in old) message now ≡ false) × (number ≡ message) × (Some sms ≡ sms_of message (state_in old)) × Passes old (Took link message now) new
+  TakesMessage old link now message (Ok (Some (taken.Expired number))) new =
+      (is_late (state_in old) message now ≡ true) × (number ≡ message)
+      × (reply : Reply) × Performs old (given_up (id_of (rules_in old) link) message now) (Ok reply) new
+  TakesMessage old link now message (Err refusal) new =
+      if is_late (state_in old) message now then Performs old (given_up (id_of (rules_in old) link) message now) (Err refusal) new
+      else ((refusal ≡ Memory) × (new ≡ old))
+
+  -- what a store answers to a link that asks for its next message: nothing exactly where there is none
+  abbrev pub TakesNext : Store D → (link now : ℕ) → Option ℕ → Result (Option Taken) Refusal → Store D → Type 0
+  TakesNext old link now None outcome new = (outcome ≡ Ok None) × (new ≡ old)
+  TakesNext old link now (Some message) outcome new = TakesMessage old link now message outcome new
+
+  abbrev pub Takes : Store D → (link now : ℕ) → Result (Option Taken) Refusal → Store D → Type 0
+  Takes old link now outcome new = TakesNext old link now (next (rules_in old) (state_in old) link now) outcome new

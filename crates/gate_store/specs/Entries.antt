@@ -1,13 +1,14 @@
 -- What the store keeps: the entries that were recorded, and the state that they make.
-use Rattle.std.specs.Prelude.{◌≡◌, ◌⊎◌, ℕ, ⊤, List, [], ◌∷◌, length, map}
+use Rattle.std.specs.Prelude.{◌≡◌, ◌⊎◌, ℕ, ⊤, List, [], ◌∷◌, ◌++◌, length, map}
 use Rattle.gate_entries.specs.declared.recorded.Recorded.{Recorded}
 use Rattle.gate_entries.specs.Entry.{entry_octets}
 use Rattle.gate_model.specs.Fold.{after, does, recorded}
-use Rattle.gate_model.specs.Loading.{ComesNext}
+use Rattle.gate_model.specs.Loading.{ComesNext, IsOutside}
 use Rattle.gate_model.specs.State.{State, empty}
 use Rattle.route_rules.specs.declared.rules.Rules.{Rules}
-use Rattle.store_journal.specs.Area.{Standing, unborn, born, foreign, stands}
+use Rattle.store_journal.specs.Area.{Standing, unborn, born, foreign, stands, gate_place}
 use Rattle.store_disk.specs.Disk.{Areas}
+use Rattle.store_disk.specs.declared.area.Area.{Area}
 
 -- the payloads that entries are kept as, in their order
 abbrev pub payloads : List Recorded → List (List ℕ)
@@ -32,13 +33,19 @@ StandsFor unborn birth entries = entries ≡ []
 StandsFor (born birth_there area there) birth entries = (birth_there ≡ birth) × (there ≡ payloads entries)
 StandsFor (foreign area at) birth entries = ⊥
 
--- nothing of a store is lost: its areas are as they were, or there was none, and there is none yet or one of this birth
--- without entries
-abbrev pub IsLeftAlone : Areas → Areas → ℕ → Type 0
-IsLeftAlone before now birth = (now ≡ before) ⊎ ((stands before ≡ unborn) × StandsFor (stands now) birth [])
+-- Behind entries in their turn stands a payload that is none which may come next. Its gate is the first place that doesn't fit.
+pub record StopsAt (rules : Rules) (there : List (List ℕ)) (at : ℕ) : Type 0 where
+  pub entries : List Recorded
+  pub payload : List ℕ
+  pub rest : List (List ℕ)
+  pub split : there ≡ payloads entries ++ payload ∷ rest
+  pub in_turn : AreInTurn (start rules) entries
+  pub outside : IsOutside payload (state_of rules entries)
+  pub place : at ≡ gate_place (payloads entries)
 
--- areas that stand so are no store: they are in no journal's grammar, or their payloads are no entries of which each may come next
-abbrev pub IsForeign : Rules → Standing → Type 0
-IsForeign rules unborn = ⊥
-IsForeign rules (born birth area there) = (entries : List Recorded) → AreInTurn (start rules) entries → there ≡ payloads entries → ⊥
-IsForeign rules (foreign area at) = Unit {0}
+-- areas that stand so are no store, from this place of this area on: it is outside a journal's grammar, or the gate of a payload that is no
+-- entry which may come next
+abbrev pub IsForeign : Rules → Standing → Area → ℕ → Type 0
+IsForeign rules unborn area at = ⊥
+IsForeign rules (born birth area_there there) area at = (area ≡ area_there) × StopsAt rules there at
+IsForeign rules (foreign area_there at_there) area at = (area ≡ area_there) × (at ≡ at_there)

@@ -1,15 +1,19 @@
 -- What a store holds, and what came of opening one.
-use Rattle.std.specs.Prelude.{◌≡◌, ℕ, Bool, List}
+use Rattle.std.specs.Prelude.{◌≡◌, ◌≤◌, ◌+◌, ℕ, Bool, List, Option, None, IfSome, option_map}
 use Rattle.std.specs.Bool.{OnTrue}
 use Rattle.kn_base.specs.Count.{Rose}
 use Rattle.gate_entries.specs.declared.recorded.Recorded.{Recorded}
+use Rattle.gate_entries.specs.Entry.{entry_octets}
 use Rattle.gate_model.specs.Gate.{IsGate, model_of, rules_of}
+use Rattle.gate_model.specs.Loading.{ComesNext}
+use Rattle.gate_model.specs.Settling.{settle}
 use Rattle.gate_model.specs.State.{State}
 use Rattle.route_rules.specs.declared.rules.Rules.{Rules}
 use Rattle.store_journal.specs.Area.{stands, unborn}
-use Rattle.store_disk.specs.Disk.{Areas}
-use Rattle.store_journal.specs.Journal.{IsJournal, IsHandedOut, disk_of, is_broken}
-use Rattle.gate_store.specs.Entries.{payloads, start, state_of, AreInTurn, StandsFor, IsForeign, IsLeftAlone}
+use Rattle.store_disk.specs.Story.{Story, reads}
+use Rattle.store_journal.specs.Journal.{IsJournal, IsHandedOut, IsUntouched, disk_of, birth_of as birth_in_journal}
+use Rattle.gate_store.specs.Entries.{payloads, start, state_of, AreInTurn, StandsFor, IsForeign}
+use Rattle.gate_store.specs.Reopening.{ReopensAlike}
 use Rattle.gate_store.specs.declared.store.Store.{Store}
 use Rattle.gate_store.specs.declared.store_fault.StoreFault.{StoreFault}
 use Rattle.gate_store.specs.declared.store_fault.StoreFault.TheVariants.{Foreign, Disk, Memory}
@@ -19,6 +23,10 @@ module _ {D : Type 0} where
   abbrev pub disk_in : Store D → D
   disk_in store = disk_of store.journal
 
+  -- its birth
+  abbrev pub birth_in : Store D → ℕ
+  birth_in store = birth_in_journal store.journal
+
   -- the rules of its links, and the state that it holds
   abbrev pub rules_in : Store D → Rules
   rules_in store = rules_of store.gate
@@ -26,37 +34,48 @@ module _ {D : Type 0} where
   abbrev pub state_in : Store D → State
   state_in store = model_of store.gate
 
-  -- a disk call failed, so that the store can only be closed
-  abbrev pub is_store_broken : Store D → Bool
-  is_store_broken store = is_broken store.journal
+  -- the entry that was refused because the disk failed, and may stand all the same
+  abbrev pub unsure_in : Store D → Option Recorded
+  unsure_in store = store.unsure
 
-  -- The store holds these entries: its journal does, all are handed out, each came in its turn, and they make its state.
-  pub record IsStore (tells : Bool) (contents : D → Areas) (store : Store D) (birth : ℕ) (entries : List Recorded) : Type 0 where
-    pub journal : IsJournal tells contents store.journal birth (payloads entries)
+  -- The store holds these entries: its journal does, all are handed out, each came in its turn, and what they make is left of its state
+  -- when it is opened again. An entry that is unsure may come next.
+  pub record IsStore (tells : Bool) (story : D → Story) (store : Store D) (birth : ℕ) (entries : List Recorded) : Type 0 where
+    pub journal : IsJournal tells story store.journal birth (payloads entries) (option_map entry_octets store.unsure)
     pub handed_out : IsHandedOut store.journal
     pub in_turn : AreInTurn (start (rules_in store)) entries
+    pub unsure : IfSome store.unsure (λ kept. ComesNext (state_of (rules_in store) entries) (entry_octets kept) kept)
     pub whole : IsGate store.gate
-    pub state : state_in store ≡ state_of (rules_in store) entries
+    pub state : settle (state_in store) ≡ state_of (rules_in store) entries
 
   -- the store holds some entries
-  abbrev pub IsOpen : Bool → (D → Areas) → Store D → Type 0
-  IsOpen tells contents store = (birth : ℕ) × (entries : List Recorded) × IsStore tells contents store birth entries
+  abbrev pub IsOpen : Bool → (D → Story) → Store D → Type 0
+  IsOpen tells story store = (birth : ℕ) × (entries : List Recorded) × IsStore tells story store birth entries
 
-  -- The store that was opened on a disk with these areas and this count of faults, under these rules: it holds the entries that they
-  -- stood for, one that wasn't born has this birth, and no disk call failed.
-  pub record IsOpened (tells : Bool) (contents : D → Areas) (faults : D → ℕ) (areas : Areas) (before : ℕ) (rules : Rules) (birth : ℕ) (store : Store D) : Type 0 where
-    pub there : ℕ
+  -- The store that was opened on a disk, under these rules: it holds the entries that the disk's areas stood for, and the state that they
+  -- make; one that wasn't born has this birth; nothing is unsure, and no disk call failed. A stop on the way leaves nothing new.
+  pub record IsOpened (tells : Bool) (story : D → Story) (faults calls : D → ℕ) (disk : D) (rules : Rules) (birth : ℕ) (store : Store D) : Type 0 where
     pub entries : List Recorded
-    pub holds : IsStore tells contents store there entries
-    pub stood : OnTrue tells (StandsFor (stands areas) there entries)
-    pub born : OnTrue tells (stands areas ≡ unborn → there ≡ birth)
+    pub holds : IsStore tells story store (birth_in store) entries
+    pub stood : OnTrue tells (StandsFor (stands (reads (story disk))) (birth_in store) entries)
+    pub born : OnTrue tells (stands (reads (story disk)) ≡ unborn → birth_in store ≡ birth)
     pub ruled : rules_in store ≡ rules
-    pub unfailed : faults (disk_in store) ≡ before
+    pub state : state_in store ≡ state_of rules entries
+    pub sure : unsure_in store ≡ None
+    pub stops : OnTrue tells (ReopensAlike rules (story disk) (story (disk_in store)))
+    pub unfailed : faults (disk_in store) ≡ faults disk
+    pub bounded : calls (disk_in store) ≤ calls disk + 20
 
-  -- Why no store was opened on such a disk, and what it holds then: it holds none, a call of it failed, or memory was wanting. No
-  -- call failed but in the second.
-  abbrev pub IsUnopened : Bool → (D → Areas) → (D → ℕ) → Areas → ℕ → Rules → ℕ → D → StoreFault → Type 0
-  IsUnopened tells contents faults areas before rules birth disk Foreign =
-      (faults disk ≡ before) × OnTrue tells (IsForeign rules (stands areas) × IsLeftAlone areas (contents disk) birth)
-  IsUnopened tells contents faults areas before rules birth disk Disk = Rose before (faults disk)
-  IsUnopened tells contents faults areas before rules birth disk Memory = (faults disk ≡ before) × OnTrue tells (IsLeftAlone areas (contents disk) birth)
+  -- why no store was opened on a disk: from this place of this area on it holds none, or the disk failed, or memory was wanting
+  abbrev pub IsUnopened : Bool → (D → Story) → (D → ℕ) → D → Rules → D → StoreFault → Type 0
+  IsUnopened tells story faults disk rules back (Foreign area at) = (faults back ≡ faults disk) × OnTrue tells (IsForeign rules (stands (reads (story disk))) area at)
+  IsUnopened tells story faults disk rules back Disk = Rose (faults disk) (faults back)
+  IsUnopened tells story faults disk rules back Memory = faults back ≡ faults disk
+
+  -- No store was opened on a disk, which is handed back: why, and that nothing that it held is lost, whenever it stopped.
+  pub record GivesBack (tells : Bool) (story : D → Story) (faults calls : D → ℕ) (disk : D) (rules : Rules) (back : D) (fault : StoreFault) : Type 0 where
+    pub cause : IsUnopened tells story faults disk rules back fault
+    pub untouched : OnTrue tells (IsUntouched (reads (story disk)) (reads (story back)))
+    pub stops : OnTrue tells (ReopensAlike rules (story disk) (story back))
+    pub kept : faults disk ≤ faults back
+    pub bounded : calls back ≤ calls disk + 20

@@ -1,25 +1,28 @@
 //! The store that keeps messages: entries in a journal, and the gate that they make.
 
-ghost use Rattle.std.specs.Prelude.{◌≡◌, ◌<◌, ◌≤◌, ◌^◌, ◌∷◌, [], List, ℕ, None, IfOk, IfErr, OnOk, OnErr, length};
+ghost use Rattle.std.specs.Prelude.{◌≡◌, ◌<◌, ◌≤◌, ◌+◌, ◌^◌, ◌++◌, ◌∷◌, [], List, ℕ, Some, None, IfOk, IfErr, OnOk, OnErr, length, map, option_copied};
 ghost use Rattle.std.specs.Bool.{OnTrue};
-ghost use Rattle.gate_entries.specs.Entry.{IsEntry, entry_octets};
+ghost use Rattle.gate_entries.specs.Entry.{entry_octets};
 ghost use Rattle.gate_entries.specs.declared.recorded.Recorded.{Recorded};
-ghost use Rattle.gate_model.specs.Acceptor.{MayBeHanded};
+ghost use Rattle.gate_model.specs.Fates.{HaveFates};
+ghost use Rattle.gate_model.specs.Fold.{recorded};
 ghost use Rattle.gate_model.specs.Gate.{entry_of as prepared, HasRoom, KeepsAll};
-ghost use Rattle.gate_model.specs.Lawful.{refusal};
+ghost use Rattle.gate_model.specs.Lawful.{refusal, MayPass};
 ghost use Rattle.gate_model.specs.State.{totals_of};
-ghost use Rattle.store_journal.specs.Area.{stands};
-ghost use Rattle.store_journal.specs.Journal.{IsKept, HoldsMore, IsHandedOut};
-ghost use Rattle.gate_store.specs.Entries.{StandsFor, state_of};
-ghost use Rattle.gate_store.specs.Deeds.{Performs, CountsFault, is_by_disk};
-ghost use Rattle.gate_store.specs.Store.{IsStore, IsOpen, IsOpened, IsUnopened, disk_in, rules_in, state_in, is_store_broken};
-ghost use Rattle.gate_store.specs.StoreSteps.{MayRecord, RefusesAppend, most_payload};
+ghost use Rattle.store_disk.specs.Story.{LeavesOnly};
+ghost use Rattle.store_journal.specs.Journal.{reserved};
+ghost use Rattle.gate_store.specs.Deeds.{Performs, Passes};
+ghost use Rattle.gate_store.specs.Entries.{start};
+ghost use Rattle.gate_store.specs.Reopening.{MayReopen, MayReopenIn};
+ghost use Rattle.gate_store.specs.Store.{IsStore, IsOpen, IsOpened, GivesBack, disk_in, birth_in, rules_in, state_in, unsure_in};
+ghost use Rattle.gate_store.specs.StoreSteps.{MayRecord, Reserves, Settles};
 
 mod entries;
+mod taking;
 
 use crate::StoreFault;
 use entries::load;
-use gate_entries::{Accept, Recorded, write_entry};
+use gate_entries::{Accept, Passing, Recorded, write_entry};
 use gate_model::{Acceptor, Gate, Ready, Refusal, Reply, Totals};
 use kn_base::{Items, Memory, Octets};
 use route_rules::Rules;
@@ -32,16 +35,18 @@ use store_journal::{Journal, OpenFault};
 pub struct Store<D: Disk> {
     alloc: Global,
     journal: Journal<D>,
-    /// What the entries of the journal make.
+    /// What the entries of the journal make, with what passes.
     gate: Gate,
+    /// The entry that was refused because the disk failed, where it may stand all the same.
+    unsure: Option<Recorded>,
 }
 
 impl<D: Disk> Store<D> {
     /// Opens the store on a disk, and where the disk holds none yet, makes it with that birth. `rules` say which links carry a message, and
     /// how many messages may wait in it.
     ///
-    /// `Foreign` where what the disk holds is no store, `Disk` exactly where a disk call failed, `Memory` where there was none. Each
-    /// fault gives the disk back; unless it is `Disk`, nothing that was stored is lost.
+    /// `Foreign` exactly where what the disk holds is no store, with the first place that doesn't fit; `Disk` only where a disk call failed,
+    /// `Memory` where there was none. Each fault gives the disk back; nothing that was stored is lost.
     pub fn open(
         alloc: Global,
         disk: D,
@@ -49,39 +54,68 @@ impl<D: Disk> Store<D> {
         birth: u64,
     ) -> Result<Store<D>, (D, StoreFault)>
         requires few_links { length rules.links < 2 ^ 32 }
-        ensures ok { IfOk result (IsOpened D.tells D.contents D.faults (D.contents disk) (D.faults disk) rules birth) }
-        ensures err { IfErr result (λ fault. IsUnopened D.tells D.contents D.faults (D.contents disk) (D.faults disk) rules birth fault.0 fault.1) }
+        ensures ok { IfOk result (IsOpened D.tells D.story D.faults D.calls disk rules birth) }
+        ensures err { IfErr result (λ fault. GivesBack D.tells D.story D.faults D.calls disk rules fault.0 fault.1) }
     {
         match Journal::open(alloc, disk, birth) {
             Ok(journal) => load(alloc, rules, journal),
-            Err((disk, OpenFault::Foreign { .. })) => Err((disk, StoreFault::Foreign)),
+            Err((disk, OpenFault::Foreign { area, at })) => {
+                Err((disk, StoreFault::Foreign { area, at }))
+            }
             Err((disk, OpenFault::Disk)) => Err((disk, StoreFault::Disk)),
             Err((disk, OpenFault::Memory)) => Err((disk, StoreFault::Memory)),
         }
     }
 
-    /// Whether a disk call failed, so that the store can only be closed.
-    pub fn is_broken(&self) -> bool
-        ensures { result ≡ is_store_broken self.now }
+    /// The birth of the store: the number that it was born with.
+    pub fn birth(&self) -> u64
+        ensures { result ≡ birth_in self.now }
     {
-        self.journal.is_broken()
+        self.journal.birth()
     }
 
-    /// What it counts: of its entries, and of their messages.
+    /// The rules of its links.
+    pub fn rules(&self) -> &Rules
+        ensures { result.now ≡ rules_in self.now }
+    {
+        self.gate.rules()
+    }
+
+    /// What it holds, with what passes.
+    pub fn state(&self) -> &Gate
+        ensures { result.now ≡ self.now.gate }
+    {
+        &self.gate
+    }
+
+    /// The entry that was refused because the disk failed, where it may stand all the same. The next one that is recorded is recorded
+    /// without it.
+    pub fn unsure(&self) -> Option<&Recorded>
+        ensures { option_copied result ≡ unsure_in self.now }
+    {
+        self.unsure.as_ref()
+    }
+
+    /// What it counts: of its entries, and of their messages. Each message that was accepted was acknowledged, rejected with a cause, or is
+    /// stored, exactly one of these, and is stored exactly where it waits.
     pub fn totals(&self) -> Totals
-        ensures { result ≡ totals_of (state_in self.now) }
+        ensures totals { result ≡ totals_of (state_in self.now) }
+        ensures fates { (birth : ℕ) (entries : List Recorded) → IsStore D.tells D.story self.now birth entries
+            → HaveFates (start (rules_in self.now)) (map recorded entries) }
+        ensures counted { (birth : ℕ) (entries : List Recorded) → IsStore D.tells D.story self.now birth entries
+            → result.accepted ≡ result.acked + result.rejected + result.waiting }
     {
         self.gate.totals()
     }
 
-    /// Records an entry on the disk, and does it.
+    /// Records an entry on the disk, and does it. An entry that is unsure is taken back first.
     ///
-    /// `NoRoute` and `Full` exactly where the model refuses it so, in this order; `Memory` where there was none; `Disk` where a disk call
-    /// failed, which breaks the store. Only an entry that was done is kept, but for `Disk`, where that isn't known.
+    /// `NoRoute` and `Full` exactly where the model refuses it so, in this order; `Memory` where there was none; `Disk` only where a disk call
+    /// failed. Only an entry that was done is kept, but that one refused with `Disk` may be unsure then. Six disk calls at most.
     pub fn perform(&mut self, entry: Recorded) -> Result<Reply, Refusal>
-        requires kept { IsOpen D.tells D.contents self.old }
+        requires kept { IsOpen D.tells D.story self.old }
         requires may { MayRecord self.old entry }
-        ensures { Performs D.tells D.contents D.faults self.old entry result self.new }
+        ensures { Performs D.tells D.story D.faults D.calls self.old entry result self.new }
     {
         match self.gate.check(&entry) {
             Ok(()) => self.record(entry),
@@ -91,10 +125,10 @@ impl<D: Disk> Store<D> {
 
     // Records an entry that isn't refused.
     fn record(&mut self, entry: Recorded) -> Result<Reply, Refusal>
-        requires kept { IsOpen D.tells D.contents self.old }
+        requires kept { IsOpen D.tells D.story self.old }
         requires may { MayRecord self.old entry }
         requires taken { refusal (rules_in self.old) (state_in self.old) entry ≡ None }
-        ensures { Performs D.tells D.contents D.faults self.old entry result self.new }
+        ensures { Performs D.tells D.story D.faults D.calls self.old entry result self.new }
     {
         match self.gate.prepare(entry, self.journal.birth()) {
             Ok(ready) => self.commit(ready),
@@ -102,54 +136,88 @@ impl<D: Disk> Store<D> {
         }
     }
 
-    // Puts an entry last in the journal, and does it.
+    // Puts an entry last in the journal, and does it. All memory is taken before the first disk call.
     fn commit(&mut self, ready: Ready) -> Result<Reply, Refusal>
-        requires kept { IsOpen D.tells D.contents self.old }
+        requires kept { IsOpen D.tells D.story self.old }
         requires room { HasRoom self.old.gate (prepared ready) }
         requires may { MayRecord self.old (prepared ready) }
         requires taken { refusal (rules_in self.old) (state_in self.old) (prepared ready) ≡ None }
-        ensures { Performs D.tells D.contents D.faults self.old (prepared ready) result self.new }
+        ensures { Performs D.tells D.story D.faults D.calls self.old (prepared ready) result self.new }
     {
-        self.append_entry(ready.entry())?;
-        Ok(self.gate.apply(ready))
+        if let Err(Memory) = self.reserve(ready.entry()) {
+            return Err(Refusal::Memory);
+        }
+        if let Err(DiskFailed) = self.repair() {
+            return Err(Refusal::Disk);
+        }
+        self.append(ready)
     }
 
-    // Puts an entry last in the journal.
-    fn append_entry(&mut self, entry: &Recorded) -> Result<(), Refusal>
-        requires kept { IsKept D.tells D.contents self.old.journal }
-        requires handed_out { IsHandedOut self.old.journal }
-        requires is_entry { IsEntry entry.now }
-        requires small { length (entry_octets entry.now) ≤ most_payload }
+    // Takes the memory for an entry in the journal.
+    fn reserve(&mut self, entry: &Recorded) -> Result<(), Memory>
+        requires kept { IsOpen D.tells D.story self.old }
+        requires may { MayRecord self.old entry.now }
         ensures same { self.new ≡ record self.old { journal = self.new.journal } }
-        ensures ok { OnOk result (HoldsMore D.tells D.contents self.old.journal self.new.journal (entry_octets entry.now ∷ [])) }
-        ensures refused { IfErr result (RefusesAppend D.tells D.contents self.old.journal self.new.journal) }
-        ensures handed_out { IsHandedOut self.new.journal }
-        ensures broken { is_store_broken self.new ≡ is_by_disk result }
-        ensures counted { CountsFault (is_by_disk result) (D.faults (disk_in self.old)) (D.faults (disk_in self.new)) }
+        ensures reserves { Reserves D.tells D.story self.old self.new }
+        ensures ok { OnOk result (reserved self.new.journal ≡ entry_octets entry.now) }
     {
         let mut payload = Octets::new(self.alloc);
-        if let Err(Memory) = write_entry(&mut payload, entry) {
-            return Err(Refusal::Memory);
-        }
-        if let Err(Memory) = self.journal.reserve(payload.as_slice()) {
-            return Err(Refusal::Memory);
-        }
+        write_entry(&mut payload, entry)?;
+        self.journal.reserve(payload.as_slice())
+    }
+
+    // Takes back an entry that is unsure, for good.
+    fn repair(&mut self) -> Result<(), DiskFailed>
+        requires kept { IsOpen D.tells D.story self.old }
+        ensures { Settles D.tells D.story D.faults D.calls self.old result self.new }
+    {
+        self.journal.repair()?;
+        self.unsure = None;
+        Ok(())
+    }
+
+    // Appends an entry that is reserved, and does it. Nothing is unsure.
+    fn append(&mut self, ready: Ready) -> Result<Reply, Refusal>
+        requires kept { IsOpen D.tells D.story self.old }
+        requires sure { unsure_in self.old ≡ None }
+        requires reserved { reserved self.old.journal ≡ entry_octets (prepared ready) }
+        requires room { HasRoom self.old.gate (prepared ready) }
+        requires may { MayRecord self.old (prepared ready) }
+        requires taken { refusal (rules_in self.old) (state_in self.old) (prepared ready) ≡ None }
+        ensures { PerformsSurely D.tells D.story D.faults D.calls self.old (prepared ready) result self.new }
+    {
         match self.journal.append() {
-            Ok(()) => Ok(()),
-            Err(DiskFailed) => Err(Refusal::Disk),
+            Ok(()) => Ok(self.gate.apply(ready)),
+            Err(DiskFailed) => {
+                if self.journal.unsure() {
+                    self.unsure = Some(ready.into_entry());
+                }
+                Err(Refusal::Disk)
+            }
         }
     }
 
-    /// Ends the store and gives its disk back.
+    /// Does an entry that isn't recorded. It takes no memory and makes no disk call.
+    pub fn pass(&mut self, entry: Passing)
+        requires kept { IsOpen D.tells D.story self.old }
+        requires lawful { MayPass (rules_in self.old) (state_in self.old) entry }
+        ensures { Passes D.tells D.story self.old entry self.new }
+    {
+        self.gate.pass(entry);
+    }
+
+    /// Ends the store and gives its disk back. Whatever a stop leaves of it from then on reopens to what is left of the state, or, where an
+    /// entry is unsure, to what the state is with it.
     pub fn close(self) -> D
         ensures disk { result ≡ disk_in self }
-        ensures stands { (birth : ℕ) (entries : List Recorded) → IsStore D.tells D.contents self birth entries →
-            OnTrue D.tells (StandsFor (stands (D.contents result)) birth entries) }
+        ensures stops { (birth : ℕ) (entries : List Recorded) → IsStore D.tells D.story self birth entries
+            → OnTrue D.tells ((image : Areas) → IsImage (D.story result) image → MayReopen (rules_in self) (state_in self) (unsure_in self) image) }
     {
         let Store {
             alloc: _,
             journal,
             gate: _,
+            unsure: _,
         } = self;
         journal.close()
     }
@@ -162,13 +230,13 @@ impl<D: Disk> Acceptor for Store<D> {
 
     ghost faults = { λ store. D.faults (disk_in store) };
 
-    ghost leads = { Leads D.tells D.contents D.faults };
+    ghost leads = { Leads D.tells D.story D.faults D.calls };
 
-    ghost can_submit = { IsOpen D.tells D.contents };
+    ghost can_submit = { IsOpen D.tells D.story };
 
     ghost leads_nowhere = { λ store. refl };
 
-    ghost leads_on = { Leads-append D.tells D.contents D.faults };
+    ghost leads_on = { Leads-append D.tells D.story D.faults D.calls };
 
     fn submit(&mut self, parts: Vec<Sms>, time: u64) -> Result<Reply, Refusal> {
         self.perform(Recorded::Accept(Accept {
