@@ -1,4 +1,5 @@
 pub mod Deeds
 pub mod Entries
+pub mod Reopening
 pub mod Store
 pub mod StoreSteps

@@ -1,20 +1,23 @@
--- The steps of a store: loading it, and recording an entry. No public clause cites these.
-use Rattle.std.specs.Prelude.{◌≡◌, ℕ, ◌≤◌, Bool, IsTrue, List, length}
+-- The steps of a store: loading it, and recording an entry. No public clause but the premise of `perform` cites these.
+use Rattle.std.specs.Prelude.{◌≡◌, ◌⊎◌, ℕ, ◌≤◌, ◌+◌, Bool, IsTrue, List, [], ◌∷◌, ◌++◌, length, Option, Some, None, Result, Ok, Err, OnOk, OnErr, IfOk, is_ok, if◌then◌else◌}
 use Rattle.std.specs.Bool.{OnTrue}
+use Rattle.kn_base.specs.Count.{Rose}
 use Rattle.gate_entries.specs.declared.recorded.Recorded.{Recorded}
 use Rattle.gate_entries.specs.Entry.{entry_octets}
+use Rattle.gate_model.specs.Fold.{does, recorded}
 use Rattle.gate_model.specs.Lawful.{IsSound}
 use Rattle.gate_model.specs.Loading.{is_served}
-use Rattle.gate_model.specs.declared.reply.Refusal.{Refusal}
-use Rattle.gate_model.specs.declared.reply.Refusal.TheVariants as refusal_is
+use Rattle.gate_model.specs.Replies.{reply_to}
+use Rattle.gate_model.specs.declared.reply.Reply.{Reply}
 use Rattle.route_rules.specs.declared.rules.Rules.{Rules}
-use Rattle.store_journal.specs.Area.{stands, born}
-use Rattle.store_disk.specs.Disk.{Areas}
-use Rattle.store_journal.specs.Journal.{HoldsSame, disk_of, birth_of, left}
+use Rattle.store_disk.specs.Story.{Story, LeavesOnly}
 use Rattle.store_disk.specs.declared.area.Area.{Area}
+use Rattle.store_disk.specs.declared.disk.DiskFailed.{DiskFailed}
+use Rattle.store_journal.specs.Journal.{disk_of, area_of, birth_of, left, reserved}
 use Rattle.store_journal.specs.declared.journal.Journal.{Journal}
-use Rattle.gate_store.specs.Entries.{payloads, start, AreInTurn}
-use Rattle.gate_store.specs.Store.{IsStore, disk_in, rules_in, state_in}
+use Rattle.gate_store.specs.Entries.{payloads, start, state_of, AreInTurn, StopsAt}
+use Rattle.gate_store.specs.Reopening.{MayReopen, MayReopenIn}
+use Rattle.gate_store.specs.Store.{IsStore, disk_in, birth_in, rules_in, state_in, unsure_in}
 use Rattle.gate_store.specs.declared.store.Store.{Store}
 use Rattle.gate_store.specs.declared.store_fault.StoreFault.{StoreFault}
 use Rattle.gate_store.specs.declared.store_fault.StoreFault.TheVariants.{Foreign, Disk, Memory}
@@ -29,30 +32,66 @@ pub record MayRecord {D : Type 0} (store : Store D) (kept : Recorded) : Type 0 w
   pub sound : IsSound (state_in store) kept
   pub small : length (entry_octets kept) ≤ most_payload
 
-module _ {D : Type 0} (tells : Bool) (contents : D → Areas) where
+module _ {D : Type 0} (tells : Bool) (story : D → Story) where
   -- What was left of a journal to hand out is the entries that the store holds, on the same disk, under these rules.
   pub record Loads (rules : Rules) (journal : Journal D) (store : Store D) : Type 0 where
     pub entries : List Recorded
     pub ruled : rules_in store ≡ rules
+    pub born : birth_in store ≡ birth_of journal
     pub handed : left journal ≡ payloads entries
-    pub holds : IsStore tells contents store (birth_of journal) entries
+    pub holds : IsStore tells story store (birth_of journal) entries
+    pub state : state_in store ≡ state_of rules entries
+    pub sure : unsure_in store ≡ None
     pub disk : disk_in store ≡ disk_of journal
 
-  -- why what is left of a journal isn't loaded: its payloads are no entries of which each may come next, or memory was wanting
+  -- why what is left of a journal isn't loaded: it stops at a payload that is no entry which may come next, or memory was wanting
   abbrev pub IsNotLoaded : Rules → Journal D → StoreFault → Type 0
-  IsNotLoaded rules journal Foreign = (entries : List Recorded) → AreInTurn (start rules) entries → left journal ≡ payloads entries → ⊥
+  IsNotLoaded rules journal (Foreign area at) = (area ≡ area_of journal) × StopsAt rules (left journal) at
   IsNotLoaded rules journal Disk = ⊥
   IsNotLoaded rules journal Memory = Unit {0}
 
-  -- Nothing was loaded, and the journal's disk stands for what it stood for.
+  -- Nothing was loaded, and the disk is the journal's.
   pub record LoadsNone (rules : Rules) (journal : Journal D) (disk : D) (fault : StoreFault) : Type 0 where
     pub cause : IsNotLoaded rules journal fault
     pub same : disk ≡ disk_of journal
-    pub stood : OnTrue tells ((area : Area) × (stands (contents disk) ≡ born (birth_of journal) area (left journal)))
 
-  -- an entry isn't appended because the disk failed, or because memory was wanting, which leaves the journal's payloads
-  abbrev pub RefusesAppend : Journal D → Journal D → Refusal → Type 0
-  RefusesAppend old new (refusal_is.NoRoute part) = ⊥
-  RefusesAppend old new (refusal_is.Full held limit) = ⊥
-  RefusesAppend old new refusal_is.Disk = Unit {0}
-  RefusesAppend old new refusal_is.Memory = HoldsSame tells contents old new
+  -- Memory was taken in the journal, and the store holds what it held.
+  pub record Reserves (old new : Store D) : Type 0 where
+    pub disk : disk_in new ≡ disk_in old
+    pub born : birth_in new ≡ birth_in old
+    pub holds : (birth : ℕ) (entries : List Recorded) → IsStore tells story old birth entries → IsStore tells story new birth entries
+
+-- the entries that are put behind others by a commit
+abbrev pub put_by : Recorded → Result Reply DiskFailed → List Recorded
+put_by kept outcome = if is_ok outcome then kept ∷ [] else []
+
+module _ {D : Type 0} (tells : Bool) (story : D → Story) (faults calls : D → ℕ) where
+  -- An entry that was unsure is taken back for good, or, where the disk failed, still is unsure. The store holds what it held.
+  pub record Settles {T : Type 0} (old : Store D) (result : Result T DiskFailed) (new : Store D) : Type 0 where
+    pub gate : new.gate ≡ old.gate
+    pub born : birth_in new ≡ birth_in old
+    pub reserved : reserved new.journal ≡ reserved old.journal
+    pub sure : OnOk result (unsure_in new ≡ None)
+    pub unsure : OnErr result (unsure_in new ≡ unsure_in old)
+    pub holds : (birth : ℕ) (entries : List Recorded) → IsStore tells story old birth entries → IsStore tells story new birth entries
+    pub stops : OnTrue tells (LeavesOnly (story (disk_in old)) (story (disk_in new)) (MayReopen (rules_in old) (state_in old) (unsure_in old)))
+    pub unfailed : OnOk result (faults (disk_in new) ≡ faults (disk_in old))
+    pub failed : OnErr result (Rose (faults (disk_in old)) (faults (disk_in new)))
+    pub kept : faults (disk_in old) ≤ faults (disk_in new)
+    pub bounded : calls (disk_in new) ≤ calls (disk_in old) + 2
+
+  -- An entry was put last in the journal and done, or the disk failed in at most so many calls.
+  pub record Commits (most : ℕ) (old : Store D) (entry : Recorded) (outcome : Result Reply DiskFailed) (new : Store D) : Type 0 where
+    pub reply : IfOk outcome (λ reply. reply ≡ reply_to (rules_in old) (state_in old) entry)
+    pub ruled : rules_in new ≡ rules_in old
+    pub born : birth_in new ≡ birth_in old
+    pub state : state_in new ≡ (if is_ok outcome then does (state_in old) (recorded entry) else state_in old)
+    pub sure : OnOk outcome (unsure_in new ≡ None)
+    pub unsure : OnErr outcome ((unsure_in new ≡ unsure_in old) ⊎ (unsure_in new ≡ None) ⊎ (unsure_in new ≡ Some entry))
+    pub holds : (birth : ℕ) (entries : List Recorded) → IsStore tells story old birth entries
+        → IsStore tells story new birth (entries ++ put_by entry outcome)
+    pub stops : OnTrue tells (LeavesOnly (story (disk_in old)) (story (disk_in new)) (MayReopenIn (rules_in old) (state_in old) (unsure_in old) entry))
+    pub unfailed : OnOk outcome (faults (disk_in new) ≡ faults (disk_in old))
+    pub failed : OnErr outcome (Rose (faults (disk_in old)) (faults (disk_in new)))
+    pub kept : faults (disk_in old) ≤ faults (disk_in new)
+    pub bounded : calls (disk_in new) ≤ calls (disk_in old) + most

@@ -7,7 +7,7 @@ ghost use Rattle.gate_entries.specs.declared.recorded.Recorded.{Recorded};
 ghost use Rattle.gate_model.specs.Fates.{HaveFates};
 ghost use Rattle.gate_model.specs.Fold.{recorded};
 ghost use Rattle.gate_model.specs.Gate.{entry_of as prepared, HasRoom, KeepsAll};
-ghost use Rattle.gate_model.specs.Lawful.{refusal, MayPass};
+ghost use Rattle.gate_model.specs.Lawful.{refusal, most_entries, MayPass};
 ghost use Rattle.gate_model.specs.State.{totals_of};
 ghost use Rattle.store_disk.specs.Story.{LeavesOnly};
 ghost use Rattle.store_journal.specs.Journal.{reserved};
@@ -15,7 +15,7 @@ ghost use Rattle.gate_store.specs.Deeds.{Performs, Passes};
 ghost use Rattle.gate_store.specs.Entries.{start};
 ghost use Rattle.gate_store.specs.Reopening.{MayReopen, MayReopenIn};
 ghost use Rattle.gate_store.specs.Store.{IsStore, IsOpen, IsOpened, GivesBack, disk_in, birth_in, rules_in, state_in, unsure_in};
-ghost use Rattle.gate_store.specs.StoreSteps.{MayRecord, Reserves, Settles};
+ghost use Rattle.gate_store.specs.StoreSteps.{MayRecord, Reserves, Settles, Commits};
 
 mod entries;
 mod taking;
@@ -147,10 +147,10 @@ impl<D: Disk> Store<D> {
         if let Err(Memory) = self.reserve(ready.entry()) {
             return Err(Refusal::Memory);
         }
-        if let Err(DiskFailed) = self.repair() {
-            return Err(Refusal::Disk);
+        match self.repair_and_append(ready) {
+            Ok(reply) => Ok(reply),
+            Err(DiskFailed) => Err(Refusal::Disk),
         }
-        self.append(ready)
     }
 
     // Takes the memory for an entry in the journal.
@@ -176,23 +176,36 @@ impl<D: Disk> Store<D> {
         Ok(())
     }
 
+    // Appends an entry that is reserved, and does it, once what is unsure is taken back.
+    fn repair_and_append(&mut self, ready: Ready) -> Result<Reply, DiskFailed>
+        requires kept { IsOpen D.tells D.story self.old }
+        requires reserved { reserved self.old.journal ≡ entry_octets (prepared ready) }
+        requires room { HasRoom self.old.gate (prepared ready) }
+        requires may { MayRecord self.old (prepared ready) }
+        requires few { (state_in self.old).entries < most_entries }
+        ensures { Commits D.tells D.story D.faults D.calls 6 self.old (prepared ready) result self.new }
+    {
+        self.repair()?;
+        self.append(ready)
+    }
+
     // Appends an entry that is reserved, and does it. Nothing is unsure.
-    fn append(&mut self, ready: Ready) -> Result<Reply, Refusal>
+    fn append(&mut self, ready: Ready) -> Result<Reply, DiskFailed>
         requires kept { IsOpen D.tells D.story self.old }
         requires sure { unsure_in self.old ≡ None }
         requires reserved { reserved self.old.journal ≡ entry_octets (prepared ready) }
         requires room { HasRoom self.old.gate (prepared ready) }
         requires may { MayRecord self.old (prepared ready) }
-        requires taken { refusal (rules_in self.old) (state_in self.old) (prepared ready) ≡ None }
-        ensures { PerformsSurely D.tells D.story D.faults D.calls self.old (prepared ready) result self.new }
+        requires few { (state_in self.old).entries < most_entries }
+        ensures { Commits D.tells D.story D.faults D.calls 4 self.old (prepared ready) result self.new }
     {
         match self.journal.append() {
             Ok(()) => Ok(self.gate.apply(ready)),
-            Err(DiskFailed) => {
+            Err(failed) => {
                 if self.journal.unsure() {
                     self.unsure = Some(ready.into_entry());
                 }
-                Err(Refusal::Disk)
+                Err(failed)
             }
         }
     }

@@ -1,6 +1,7 @@
 //! The next message of a link.
 
 ghost use Rattle.std.specs.Prelude.{◌≡◌, ◌<◌, ◌≤◌, ◌^◌, true, false, length, Some};
+ghost use Rattle.gate_model.specs.Fold.{sms_of};
 ghost use Rattle.gate_model.specs.Routing.{next};
 ghost use Rattle.gate_store.specs.Deeds.{Takes, TakesMessage, id_of, is_late};
 ghost use Rattle.gate_store.specs.Store.{IsOpen, rules_in, state_in};
@@ -9,19 +10,14 @@ use crate::{Store, Taken};
 use gate_entries::{Cause, Passing, Recorded, Rejected};
 use gate_model::Refusal;
 use kn_base::{Memory, Octets};
-use sms_record::{Sms, copy_sms};
+use sms_record::copy_sms;
 use store_disk::Disk;
-
-/// Whether a message has a validity that has passed at a reading of the clock.
-fn has_expired(sms: &Sms, now: u64) -> bool {
-    sms.validity != 0 && sms.time + 60 * u64::from(sms.validity) <= now
-}
 
 impl<D: Disk> Store<D> {
     /// The next message of a link, which takes it, at a reading of the clock in Unix seconds.
     ///
-    /// `None` exactly where no message waits that is free, due and goes by this link. A message whose validity has passed is rejected for that, with
-    /// the refusals of `perform`, and no other is handed out in its place. Else only `Memory` is answered, and no disk call made.
+    /// `None` exactly where no message waits that is free, due and goes by this link. A message whose validity has passed is rejected for that,
+    /// with the refusals of `perform`, and none is handed out in its place. Else only `Memory` is answered, and no disk call is made.
     pub fn take_next(&mut self, link: u32, now: u64) -> Result<Option<Taken>, Refusal>
         requires kept { IsOpen D.tells D.story self.old }
         requires time { now < 2 ^ 37 }
@@ -31,10 +27,62 @@ impl<D: Disk> Store<D> {
         let Some(message) = self.gate.next_for(link, now) else {
             return Ok(None);
         };
-        match self.gate.sms(message) {
-            Some(sms) if has_expired(sms, now) => self.give_up(link, message, now),
-            Some(sms) => { let sms = copy_sms(self.alloc, sms)?; ... }
-            None => unreachable!(),
+        if self.gate.is_late(message, now) {
+            self.give_up(link, message, now)
+        } else {
+            self.send(link, message, now)
         }
+    }
+
+    // Rejects a message whose validity has passed.
+    fn give_up(&mut self, link: u32, message: u64, now: u64) -> Result<Option<Taken>, Refusal>
+        requires kept { IsOpen D.tells D.story self.old }
+        requires time { now < 2 ^ 37 }
+        requires id { length (id_of (rules_in self.old) link) ≤ 2048 }
+        requires late { is_late (state_in self.old) message now ≡ true }
+        ensures { TakesMessage D.tells D.story D.faults D.calls self.old link now message result self.new }
+    {
+        let Ok(smsc) = self.id_of_link(link) else {
+            return Err(Refusal::Memory);
+        };
+        self.perform(Recorded::Rejected(Rejected {
+            message,
+            smsc,
+            cause: Cause::Expired,
+            time: now,
+        }))?;
+        Ok(Some(Taken::Expired { message }))
+    }
+
+    // A copy of the id of a link.
+    fn id_of_link(&self, link: u32) -> Result<Octets, Memory>
+        ensures { IfOk result (λ id. id ≡ id_of (rules_in self.now) link) }
+    {
+        match self.gate.rules().links.as_slice().get(link as usize) {
+            Some(rule) => Octets::from_slice(self.alloc, rule.id.as_slice()),
+            None => Ok(Octets::new(self.alloc)),
+        }
+    }
+
+    // Hands out a message, which the link takes.
+    fn send(&mut self, link: u32, message: u64, now: u64) -> Result<Option<Taken>, Refusal>
+        requires kept { IsOpen D.tells D.story self.old }
+        requires time { now < 2 ^ 37 }
+        requires fresh { is_late (state_in self.old) message now ≡ false }
+        requires next { next (rules_in self.old) (state_in self.old) link now ≡ Some message }
+        ensures { TakesMessage D.tells D.story D.faults D.calls self.old link now message result self.new }
+    {
+        let Some(sms) = self.gate.sms(message) else {
+            unreachable!();
+        };
+        let Ok(sms) = copy_sms(self.alloc, sms) else {
+            return Err(Refusal::Memory);
+        };
+        self.pass(Passing::Took {
+            link,
+            message,
+            time: now,
+        });
+        Ok(Some(Taken::Send { message, sms }))
     }
 }
