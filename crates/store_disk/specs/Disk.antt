@@ -1,5 +1,5 @@
 -- What the three areas of a disk hold, and what its calls do to them.
-use Rattle.std.specs.Prelude.{◌≡◌, ◌≤◌, ◌+◌, ℕ, Bool, true, List, [], ◌++◌, length, take, drop, Result, OnOk, OnErr}
+use Rattle.std.specs.Prelude.{◌≡◌, ◌≤◌, ◌+◌, ℕ, Bool, true, false, List, [], ◌++◌, length, take, drop, Result, OnOk, OnErr}
 use Rattle.kn_base.specs.Count.{next_count}
 use Rattle.store_disk.specs.declared.area.Area.{Area}
 use Rattle.store_disk.specs.declared.area.Area.TheVariants.{A, B, Pick}
@@ -41,37 +41,6 @@ written octets at bytes = take at octets ++ bytes ++ drop (at + length bytes) oc
 -- the areas after a write to one of them
 abbrev pub after_write : Area → ℕ → List ℕ → Areas → Areas
 after_write area at bytes areas = with_octets areas area (written (octets_of areas area) at bytes)
-
--- all areas but one hold what they held
-abbrev pub OthersStay : Area → Areas → Areas → Type 0
-OthersStay area old new = new ≡ with_octets old area (octets_of new area)
-
--- of each area, whether all that was written to it was synced since
-pub record Synced : Type 0 where
-  pub a : Bool
-  pub b : Bool
-  pub pick : Bool
-
--- all areas are synced
-abbrev pub all_synced : Synced
-all_synced = record { a = true; b = true; pick = true }
-
--- whether one area is synced
-abbrev pub is_synced : Synced → Area → Bool
-is_synced synced A = synced.a
-is_synced synced B = synced.b
-is_synced synced Pick = synced.pick
-
--- the same of all areas but one, which is synced now or isn't
-abbrev pub with_synced : Synced → Area → Bool → Synced
-with_synced synced A now = record { a = now; b = synced.b; pick = synced.pick }
-with_synced synced B now = record { a = synced.a; b = now; pick = synced.pick }
-with_synced synced Pick now = record { a = synced.a; b = synced.b; pick = now }
-
--- all areas but one hold what they held, and are synced if they were
-pub record ChangesOnly (area : Area) (old new : Areas) (synced synced_now : Synced) : Type 0 where
-  pub octets : OthersStay area old new
-  pub syncs : synced_now ≡ with_synced synced area (is_synced synced_now area)
 
 -- a place is no further than an area's end
 abbrev pub IsWithin : Areas → Area → ℕ → Type 0

@@ -48,8 +48,20 @@ at_rest octets = record { settled = octets; octets = octets; ranges = []; least 
 
 -- what an act on an area makes of its past
 abbrev pub past_after : Act → Past → Past
-past_after (wrote area at count octets) past = record past { octets = octets; ranges = (at, count) ∷ past.ranges; greatest = max past.greatest (at + count) }
-past_after (cut area size octets) past = record past { octets = octets; least = min past.least size }
+past_after (wrote area at count octets) past = record {
+  settled = past.settled;
+  octets = octets;
+  ranges = (at, count) ∷ past.ranges;
+  least = min past.least (length octets);
+  greatest = max past.greatest (max (at + count) (length octets));
+}
+past_after (cut area size octets) past = record {
+  settled = past.settled;
+  octets = octets;
+  ranges = past.ranges;
+  least = min past.least (min size (length octets));
+  greatest = max past.greatest (length octets);
+}
 past_after (synced area) past = at_rest past.octets
 
 -- an act is one on this area
@@ -126,16 +138,17 @@ pub record Shortens (size : ℕ) (old new : List ℕ) : Type 0 where
   pub front : new ≡ take (length new) old
   pub no_shorter : size ≤ length new
 
--- what a write makes of a story, by its answer
+-- what a write makes of a story, by its answer: a write that failed may have done nothing at all
 abbrev pub Writes : Area → ℕ → List ℕ → {T : Type 0} → Result T DiskFailed → Story → Story → Type 0
 Writes area at bytes (Ok done) old new = new ≡ tell (wrote area at (length bytes) (written (octets_of (reads old) area) at bytes)) old
 Writes area at bytes (Err failed) old new =
-    (octets : List ℕ) × (new ≡ tell (wrote area at (length bytes) octets) old) × Tears at (length bytes) (octets_of (reads old) area) octets
+    (new ≡ old) ⊎ ((octets : List ℕ) × (new ≡ tell (wrote area at (length bytes) octets) old) × Tears at (length bytes) (octets_of (reads old) area) octets)
 
--- what a cut makes of it
+-- what a cut makes of it: a cut that failed may have done nothing either
 abbrev pub Cuts : Area → ℕ → {T : Type 0} → Result T DiskFailed → Story → Story → Type 0
 Cuts area size (Ok done) old new = new ≡ tell (cut area size (take size (octets_of (reads old) area))) old
-Cuts area size (Err failed) old new = (octets : List ℕ) × (new ≡ tell (cut area size octets) old) × Shortens size (octets_of (reads old) area) octets
+Cuts area size (Err failed) old new =
+    (new ≡ old) ⊎ ((octets : List ℕ) × (new ≡ tell (cut area size octets) old) × Shortens size (octets_of (reads old) area) octets)
 
 -- what a sync makes of it
 abbrev pub Syncs : Area → {T : Type 0} → Result T DiskFailed → Story → Story → Type 0

@@ -1,4 +1,4 @@
-//! A disk of real files. It tells no contents: what a file holds is no matter of a proof.
+//! A disk of real files. It tells no story: what a file holds is no matter of a proof.
 
 ghost use Rattle.std.specs.Prelude.{◌≡◌, IfOk, IsErr, MatchResult};
 ghost use Rattle.store_disk.specs.Disk.{CountsCall};
@@ -92,14 +92,13 @@ impl<R: Files<File = File>> HostDisk<R> {
 }
 
 impl<R: Files<File = File>> Disk for HostDisk<R> {
-    ghost use Rattle.store_disk.specs.Disk.{no_areas, all_synced};
+    ghost use Rattle.store_disk.specs.Disk.{no_areas};
+    ghost use Rattle.store_disk.specs.Story.{untold};
     ghost use Rattle.std.specs.Prelude.{false};
 
     ghost tells = { false };
 
-    ghost contents = { λ _. no_areas };
-
-    ghost synced = { λ _. all_synced };
+    ghost story = { λ _. untold no_areas };
 
     ghost faults = { λ disk. disk.faults };
 
@@ -120,6 +119,11 @@ impl<R: Files<File = File>> Disk for HostDisk<R> {
             return self.count(Err(io::ErrorKind::FileTooLarge.into()));
         }
         let done = self.files.of(area).write(&self.rt, at, bytes);
+        self.count(done)
+    }
+
+    fn cut(&mut self, area: Area, size: u64) -> Result<(), DiskFailed> {
+        let done = self.files.of(area).cut(&self.rt, size);
         self.count(done)
     }
 

@@ -2,7 +2,7 @@
 
 use kn_base::{Memory, Octets};
 use std::alloc::Global;
-use std::fs::{File, Files, OpenOptions};
+use std::fs::{File, Files, OpenFile, OpenOptions};
 use std::io::{self, Read, Seek, SeekFrom, Write};
 use std::os::unix::fs::OpenOptionsExt;
 use std::path::Path;
@@ -102,6 +102,11 @@ impl HostFile {
         let file = self.opened(rt)?;
         file.seek(SeekFrom::Start(at))?;
         file.write_all(bytes)
+    }
+
+    /// Cuts the file to a size in octets.
+    pub fn cut<R: Files<File = File>>(&mut self, rt: &R, size: u64) -> io::Result<()> {
+        self.opened(rt)?.set_len(size)
     }
 
     /// Puts what was written where a stop leaves it, and the first time the name of the file too.

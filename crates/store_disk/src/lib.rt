@@ -9,6 +9,7 @@
 
 mod area;
 mod disk;
+mod entry;
 mod host_disk;
 mod host_file;
 mod mem_area;

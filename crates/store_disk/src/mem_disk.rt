@@ -1,11 +1,13 @@
-//! A disk in memory, for tests and for what needs no file. It tells what it holds, and fails when told to.
+//! A disk in memory, for tests and for what needs no file. It tells its story, and fails when told to.
 
-ghost use Rattle.std.specs.Prelude.{◌≡◌, ◌+◌, ◌<◌, ◌↔◌, length, OnOk, OnErr, IsErr};
+ghost use Rattle.std.specs.Prelude.{◌≡◌, ◌+◌, ◌≤◌, ◌∷◌, ◌↔◌, false, length, take, IfOk, OnOk, OnErr, IsErr};
 ghost use Rattle.kn_base.specs.Calls.{IsFailing, one_more};
-ghost use Rattle.store_disk.specs.Disk.{CountsCall, IsWithin, after_write};
+ghost use Rattle.kn_base.specs.Count.{next_count};
+ghost use Rattle.store_disk.specs.Disk.{CountsCall, IsWithin};
 
 use crate::disk::LAST_END;
-use crate::mem_area::MemArea;
+use crate::entry::{Deed, Entry};
+use crate::mem_area::{behind, covered, write_over};
 use crate::{Area, Disk, DiskFailed};
 use kn_base::{MemCalls, Memory, Octets, raised};
 use std::alloc::Global;
@@ -14,28 +16,33 @@ use std::alloc::Global;
 /// areas hold. Want of memory is a counted fault.
 #[derive(Drop)]
 pub struct MemDisk {
-    a: MemArea,
-    b: MemArea,
-    pick: MemArea,
+    alloc: Global,
+    a: Vec<u8>,
+    b: Vec<u8>,
+    pick: Vec<u8>,
+    log: Vec<Entry>,
     calls: MemCalls,
     faults: u64,
 }
 
 impl MemDisk {
-    ghost use Rattle.store_disk.specs.Disk.{octets_of, all_synced, with_synced};
-    ghost use Rattle.store_disk.specs.MemDisk.{mem_areas, mem_synced, mem_calls, mem_faults};
+    ghost use Rattle.store_disk.specs.Disk.{octets_of};
+    ghost use Rattle.store_disk.specs.MemDisk.{mem_areas, mem_calls, mem_faults, mem_story};
+    ghost use Rattle.store_disk.specs.Story.{untold};
 
     /// A disk that holds these octets, on which no call was made. It takes no memory.
-    pub fn new(_alloc: Global, a: Octets, b: Octets, pick: Octets, failing: Vec<u64>) -> MemDisk
+    pub fn new(alloc: Global, a: Octets, b: Octets, pick: Octets, failing: Vec<u64>) -> MemDisk
         ensures areas { mem_areas result ≡ record { a = a; b = b; pick = pick } }
-        ensures synced { mem_synced result ≡ all_synced }
+        ensures story { mem_story result ≡ untold (mem_areas result) }
         ensures calls { mem_calls result ≡ record { failing = failing.items; made = 0 } }
         ensures faults { mem_faults result ≡ 0 }
     {
         MemDisk {
-            a: MemArea::new(a.into_vec()),
-            b: MemArea::new(b.into_vec()),
-            pick: MemArea::new(pick.into_vec()),
+            alloc,
+            a: a.into_vec(),
+            b: b.into_vec(),
+            pick: pick.into_vec(),
+            log: Vec::new(alloc),
             calls: MemCalls::new(failing),
             faults: 0,
         }
@@ -44,14 +51,16 @@ impl MemDisk {
     /// The disk with what it holds, as one on which no call was made.
     pub fn anew(self) -> MemDisk
         ensures areas { mem_areas result ≡ mem_areas self }
-        ensures synced { mem_synced result ≡ all_synced }
+        ensures story { mem_story result ≡ untold (mem_areas self) }
         ensures calls { mem_calls result ≡ record (mem_calls self) { made = 0 } }
         ensures faults { mem_faults result ≡ 0 }
     {
         MemDisk {
-            a: MemArea::new(self.a.octets),
-            b: MemArea::new(self.b.octets),
-            pick: MemArea::new(self.pick.octets),
+            alloc: self.alloc,
+            a: self.a,
+            b: self.b,
+            pick: self.pick,
+            log: Vec::new(self.alloc),
             calls: self.calls.anew(),
             faults: 0,
         }
@@ -62,9 +71,9 @@ impl MemDisk {
         ensures { result.now ≡ octets_of (mem_areas self.now) area }
     {
         match area {
-            Area::A => self.a.octets.as_slice(),
-            Area::B => self.b.octets.as_slice(),
-            Area::Pick => self.pick.octets.as_slice(),
+            Area::A => self.a.as_slice(),
+            Area::B => self.b.as_slice(),
+            Area::Pick => self.pick.as_slice(),
         }
     }
 
@@ -81,14 +90,163 @@ impl MemDisk {
     {
         self.faults
     }
+}
 
-    // Counts a call, and fails where that is its script.
+// What each call does, which isn't counted yet.
+impl MemDisk {
+    ghost use Rattle.store_disk.specs.Disk.{after_write, octets_of, with_octets};
+    ghost use Rattle.store_disk.specs.MemDisk.{cut_entry, mem_areas, mem_calls, mem_faults, mem_log, write_entry};
+
+    // Notes what a call did. After `Memory` it isn't noted.
+    fn note(&mut self, entry: Entry) -> Result<(), Memory>
+        ensures ok { OnOk result (mem_log self.new ≡ entry ∷ mem_log self.old) }
+        ensures err { OnErr result (mem_log self.new ≡ mem_log self.old) }
+        ensures areas { mem_areas self.new ≡ mem_areas self.old }
+        ensures calls { mem_calls self.new ≡ mem_calls self.old }
+        ensures faults { mem_faults self.new ≡ mem_faults self.old }
+    {
+        Ok(self.log.push(entry)?)
+    }
+
+    // Notes a write, and what stands in its range.
+    fn note_write(&mut self, call: u64, area: Area, at: usize, count: usize) -> Result<(), Memory>
+        requires { IsWithin (mem_areas self.old) area at }
+        ensures ok { OnOk result (mem_log self.new ≡ write_entry call area at count (mem_areas self.old) ∷ mem_log self.old) }
+        ensures err { OnErr result (mem_log self.new ≡ mem_log self.old) }
+        ensures areas { mem_areas self.new ≡ mem_areas self.old }
+        ensures calls { mem_calls self.new ≡ mem_calls self.old }
+        ensures faults { mem_faults self.new ≡ mem_faults self.old }
+    {
+        let was = covered(self.alloc, self.area(area), at, count)?;
+        let deed = Deed::Wrote { at, count, was };
+        self.note(Entry { call, area, deed })
+    }
+
+    // Notes a cut that was to leave so many octets, and what stands behind those that it leaves.
+    fn note_cut(&mut self, call: u64, area: Area, size: usize, left: usize) -> Result<(), Memory>
+        requires { IsWithin (mem_areas self.old) area left }
+        ensures ok { OnOk result (mem_log self.new ≡ cut_entry call area size left (mem_areas self.old) ∷ mem_log self.old) }
+        ensures err { OnErr result (mem_log self.new ≡ mem_log self.old) }
+        ensures areas { mem_areas self.new ≡ mem_areas self.old }
+        ensures calls { mem_calls self.new ≡ mem_calls self.old }
+        ensures faults { mem_faults self.new ≡ mem_faults self.old }
+    {
+        let was = behind(self.alloc, self.area(area), left)?;
+        let deed = Deed::Cut { size, was };
+        self.note(Entry { call, area, deed })
+    }
+
+    // Writes to an area. After `Memory` nothing has changed.
+    fn put(&mut self, area: Area, at: usize, bytes: &[u8]) -> Result<(), Memory>
+        requires { IsWithin (mem_areas self.old) area at }
+        ensures ok { OnOk result (mem_areas self.new ≡ after_write area at bytes.now (mem_areas self.old)) }
+        ensures err { OnErr result (mem_areas self.new ≡ mem_areas self.old) }
+        ensures log { mem_log self.new ≡ mem_log self.old }
+        ensures calls { mem_calls self.new ≡ mem_calls self.old }
+        ensures faults { mem_faults self.new ≡ mem_faults self.old }
+    {
+        match area {
+            Area::A => write_over(&mut self.a, at, bytes),
+            Area::B => write_over(&mut self.b, at, bytes),
+            Area::Pick => write_over(&mut self.pick, at, bytes),
+        }
+    }
+
+    // Cuts an area.
+    fn truncate(&mut self, area: Area, size: usize)
+        ensures areas { mem_areas self.new ≡ with_octets (mem_areas self.old) area (take size (octets_of (mem_areas self.old) area)) }
+        ensures log { mem_log self.new ≡ mem_log self.old }
+        ensures calls { mem_calls self.new ≡ mem_calls self.old }
+        ensures faults { mem_faults self.new ≡ mem_faults self.old }
+    {
+        match area {
+            Area::A => self.a.truncate(size),
+            Area::B => self.b.truncate(size),
+            Area::Pick => self.pick.truncate(size),
+        }
+    }
+}
+
+// The calls, before their faults are counted.
+impl MemDisk {
+    ghost use Rattle.store_disk.specs.MemDisk.{mem_areas, mem_calls, mem_faults, mem_story};
+    ghost use Rattle.store_disk.specs.Story.{Cuts, Syncs, Writes};
+
+    // A write, which may be one that fails. Whatever fails leaves what the areas hold.
+    fn write(
+        &mut self,
+        call: u64,
+        area: Area,
+        at: usize,
+        bytes: &[u8],
+        fails: bool,
+    ) -> Result<(), DiskFailed>
+        requires { IsWithin (mem_areas self.old) area at }
+        ensures written { Writes area at bytes.now result (mem_story self.old) (mem_story self.new) }
+        ensures due { OnOk result (fails ≡ false) }
+        ensures unwritten { OnErr result (mem_areas self.new ≡ mem_areas self.old) }
+        ensures calls { mem_calls self.new ≡ mem_calls self.old }
+        ensures faults { mem_faults self.new ≡ mem_faults self.old }
+    {
+        let Ok(()) = self.note_write(call, area, at, bytes.len()) else {
+            return Err(DiskFailed);
+        };
+        if fails {
+            return Err(DiskFailed);
+        }
+        match self.put(area, at, bytes) {
+            Ok(()) => Ok(()),
+            Err(Memory) => Err(DiskFailed),
+        }
+    }
+
+    // A cut, which may be one that fails. Whatever fails leaves what the areas hold.
+    fn shorten(
+        &mut self,
+        call: u64,
+        area: Area,
+        size: usize,
+        fails: bool,
+    ) -> Result<(), DiskFailed>
+        requires { IsWithin (mem_areas self.old) area size }
+        ensures cut { Cuts area size result (mem_story self.old) (mem_story self.new) }
+        ensures due { OnOk result (fails ≡ false) }
+        ensures uncut { OnErr result (mem_areas self.new ≡ mem_areas self.old) }
+        ensures calls { mem_calls self.new ≡ mem_calls self.old }
+        ensures faults { mem_faults self.new ≡ mem_faults self.old }
+    {
+        let left = if fails { self.area(area).len() } else { size };
+        let Ok(()) = self.note_cut(call, area, size, left) else {
+            return Err(DiskFailed);
+        };
+        if fails {
+            return Err(DiskFailed);
+        }
+        self.truncate(area, size);
+        Ok(())
+    }
+
+    // A sync. It fails where it can't be noted.
+    fn settle(&mut self, call: u64, area: Area) -> Result<(), DiskFailed>
+        ensures synced { Syncs area result (mem_story self.old) (mem_story self.new) }
+        ensures areas { mem_areas self.new ≡ mem_areas self.old }
+        ensures calls { mem_calls self.new ≡ mem_calls self.old }
+        ensures faults { mem_faults self.new ≡ mem_faults self.old }
+    {
+        let deed = Deed::Synced;
+        match self.note(Entry { call, area, deed }) {
+            Ok(()) => Ok(()),
+            Err(Memory) => Err(DiskFailed),
+        }
+    }
+
+    // Counts a call, and its fault where it is to fail.
     fn begin(&mut self) -> Result<(), DiskFailed>
         ensures fails { IsErr result ↔ IsFailing (mem_calls self.old) }
         ensures calls { mem_calls self.new ≡ one_more (mem_calls self.old) }
         ensures counted { CountsCall (mem_calls self.old).made (mem_calls self.new).made (mem_faults self.old) (mem_faults self.new) result }
         ensures areas { mem_areas self.new ≡ mem_areas self.old }
-        ensures synced { mem_synced self.new ≡ mem_synced self.old }
+        ensures story { mem_story self.new ≡ mem_story self.old }
     {
         if self.calls.next_fails() {
             self.faults = raised(self.faults);
@@ -97,72 +255,31 @@ impl MemDisk {
         Ok(())
     }
 
-    // Notes whether an area is synced.
-    fn set_synced(&mut self, area: Area, is_synced: bool)
-        ensures synced { mem_synced self.new ≡ with_synced (mem_synced self.old) area is_synced }
+    // Counts a fault where a call failed.
+    fn answered(&mut self, done: Result<(), DiskFailed>) -> Result<(), DiskFailed>
+        ensures done { result ≡ done }
+        ensures failed { OnErr result (mem_faults self.new ≡ next_count (mem_faults self.old)) }
+        ensures ok { OnOk result (mem_faults self.new ≡ mem_faults self.old) }
+        ensures calls { mem_calls self.new ≡ mem_calls self.old }
         ensures areas { mem_areas self.new ≡ mem_areas self.old }
-        ensures calls { mem_calls self.new ≡ mem_calls self.old }
-        ensures faults { mem_faults self.new ≡ mem_faults self.old }
+        ensures story { mem_story self.new ≡ mem_story self.old }
     {
-        match area {
-            Area::A => self.a.is_synced = is_synced,
-            Area::B => self.b.is_synced = is_synced,
-            Area::Pick => self.pick.is_synced = is_synced,
+        if done.is_err() {
+            self.faults = raised(self.faults);
         }
-    }
-
-    // Writes to an area. After `Memory` nothing has changed.
-    fn write(&mut self, area: Area, at: usize, bytes: &[u8]) -> Result<(), Memory>
-        requires { IsWithin (mem_areas self.old) area at }
-        ensures ok { OnOk result (mem_areas self.new ≡ after_write area at bytes.now (mem_areas self.old)) }
-        ensures err { OnErr result (mem_areas self.new ≡ mem_areas self.old) }
-        ensures full { OnErr result (length (octets_of (mem_areas self.old) area) < at + length bytes.now) }
-        ensures synced { mem_synced self.new ≡ mem_synced self.old }
-        ensures calls { mem_calls self.new ≡ mem_calls self.old }
-        ensures faults { mem_faults self.new ≡ mem_faults self.old }
-    {
-        match area {
-            Area::A => self.a.write(at, bytes),
-            Area::B => self.b.write(at, bytes),
-            Area::Pick => self.pick.write(at, bytes),
-        }
-    }
-}
-
-impl MemDisk {
-    ghost use Rattle.std.specs.Prelude.{◌≤◌, ◌⊎◌};
-    ghost use Rattle.store_disk.specs.Disk.{octets_of};
-    ghost use Rattle.store_disk.specs.MemDisk.{mem_areas, mem_synced, mem_calls, mem_faults};
-
-    // Writes to an area, unless the write would end past the last place. After `Memory`, which says that too, nothing has
-    // changed.
-    fn write_up_to_end(&mut self, area: Area, at: u64, bytes: &[u8]) -> Result<(), Memory>
-        requires { IsWithin (mem_areas self.old) area at }
-        ensures ok { OnOk result (mem_areas self.new ≡ after_write area at bytes.now (mem_areas self.old)) }
-        ensures end { OnOk result (at + length bytes.now ≤ LAST_END) }
-        ensures err { OnErr result (mem_areas self.new ≡ mem_areas self.old) }
-        ensures fails { OnErr result ((LAST_END < at + length bytes.now) ⊎ (length (octets_of (mem_areas self.old) area) < at + length bytes.now)) }
-        ensures synced { mem_synced self.new ≡ mem_synced self.old }
-        ensures calls { mem_calls self.new ≡ mem_calls self.old }
-        ensures faults { mem_faults self.new ≡ mem_faults self.old }
-    {
-        if at + bytes.len() as u64 > LAST_END {
-            return Err(Memory);
-        }
-        self.write(area, at as usize, bytes)
+        done
     }
 }
 
 impl Disk for MemDisk {
-    ghost use Rattle.std.specs.Prelude.{◌+◌, ◌<◌, ◌≤◌, ◌⊎◌, true, false, length, IfOk};
-    ghost use Rattle.store_disk.specs.Disk.{OthersStay, Reads, octets_of, with_synced};
-    ghost use Rattle.store_disk.specs.MemDisk.{mem_areas, mem_synced, mem_calls, mem_faults};
+    ghost use Rattle.std.specs.Prelude.{◌<◌, true};
+    ghost use Rattle.store_disk.specs.Disk.{Reads, octets_of};
+    ghost use Rattle.store_disk.specs.MemDisk.{mem_areas, mem_calls, mem_faults, mem_story};
+    ghost use Rattle.store_disk.specs.Story.{Cuts, Syncs, Writes};
 
     ghost tells = { true };
 
-    ghost contents = { mem_areas };
-
-    ghost synced = { mem_synced };
+    ghost story = { mem_story };
 
     ghost faults = { mem_faults };
 
@@ -170,9 +287,9 @@ impl Disk for MemDisk {
 
     fn size(&mut self, area: Area) -> Result<u64, DiskFailed>
         ensures counted { CountsCall (mem_calls self.old).made (mem_calls self.new).made (mem_faults self.old) (mem_faults self.new) result }
-        ensures kept { mem_areas self.new ≡ mem_areas self.old }
-        ensures kept_synced { mem_synced self.new ≡ mem_synced self.old }
+        ensures kept { mem_story self.new ≡ mem_story self.old }
         ensures size { IfOk result (λ size. size ≡ length (octets_of (mem_areas self.old) area)) }
+        ensures areas { mem_areas self.new ≡ mem_areas self.old }
         ensures fails { IsErr result ↔ IsFailing (mem_calls self.old) }
         ensures calls { mem_calls self.new ≡ one_more (mem_calls self.old) }
     {
@@ -183,9 +300,9 @@ impl Disk for MemDisk {
     fn read(&mut self, area: Area, at: u64, into: &mut [u8]) -> Result<(), DiskFailed>
         requires { IsWithin (mem_areas self.old) area (at + length into.old) }
         ensures counted { CountsCall (mem_calls self.old).made (mem_calls self.new).made (mem_faults self.old) (mem_faults self.new) result }
-        ensures kept { mem_areas self.new ≡ mem_areas self.old }
-        ensures kept_synced { mem_synced self.new ≡ mem_synced self.old }
+        ensures kept { mem_story self.new ≡ mem_story self.old }
         ensures read { OnOk result (Reads (mem_areas self.old) area at into.new) }
+        ensures areas { mem_areas self.new ≡ mem_areas self.old }
         ensures fails { IsErr result ↔ IsFailing (mem_calls self.old) }
         ensures calls { mem_calls self.new ≡ one_more (mem_calls self.old) }
     {
@@ -195,42 +312,49 @@ impl Disk for MemDisk {
         Ok(())
     }
 
-    /// A write fails where its number is failing or its end passes `LAST_END`, and else only where it makes the area
-    /// longer and finds no memory. After a fault the area holds what it held.
+    /// A write whose number is failing or whose end passes `LAST_END` fails. After a fault the area holds what it held.
     fn write_at(&mut self, area: Area, at: u64, bytes: &[u8]) -> Result<(), DiskFailed>
         requires some { 0 < length bytes.now }
         requires inside { IsWithin (mem_areas self.old) area at }
         ensures counted { CountsCall (mem_calls self.old).made (mem_calls self.new).made (mem_faults self.old) (mem_faults self.new) result }
-        ensures written { OnOk result (mem_areas self.new ≡ after_write area at bytes.now (mem_areas self.old)) }
-        ensures others { OthersStay area (mem_areas self.old) (mem_areas self.new) }
-        ensures unsynced { mem_synced self.new ≡ with_synced (mem_synced self.old) area false }
+        ensures written { Writes area at bytes.now result (mem_story self.old) (mem_story self.new) }
         ensures end { OnOk result (at + length bytes.now ≤ LAST_END) }
         ensures unwritten { OnErr result (mem_areas self.new ≡ mem_areas self.old) }
         ensures due { OnOk result (¬ IsFailing (mem_calls self.old)) }
-        ensures fails { OnErr result (IsFailing (mem_calls self.old) ⊎ (LAST_END < at + length bytes.now) ⊎ (length (octets_of (mem_areas self.old) area) < at + length bytes.now)) }
         ensures calls { mem_calls self.new ≡ one_more (mem_calls self.old) }
     {
-        self.set_synced(area, false);
-        self.begin()?;
-        match self.write_up_to_end(area, at, bytes) {
-            Ok(()) => Ok(()),
-            Err(Memory) => {
-                self.faults = raised(self.faults);
-                Err(DiskFailed)
-            }
-        }
+        let call = self.calls.made();
+        let is_failing = self.calls.next_fails();
+        let fails = is_failing || at + bytes.len() as u64 > LAST_END;
+        let done = self.write(call, area, at as usize, bytes, fails);
+        self.answered(done)
+    }
+
+    /// A cut whose number is failing fails. After a fault the area holds what it held.
+    fn cut(&mut self, area: Area, size: u64) -> Result<(), DiskFailed>
+        requires { IsWithin (mem_areas self.old) area size }
+        ensures counted { CountsCall (mem_calls self.old).made (mem_calls self.new).made (mem_faults self.old) (mem_faults self.new) result }
+        ensures cut { Cuts area size result (mem_story self.old) (mem_story self.new) }
+        ensures uncut { OnErr result (mem_areas self.new ≡ mem_areas self.old) }
+        ensures due { OnOk result (¬ IsFailing (mem_calls self.old)) }
+        ensures calls { mem_calls self.new ≡ one_more (mem_calls self.old) }
+    {
+        let call = self.calls.made();
+        let fails = self.calls.next_fails();
+        let done = self.shorten(call, area, size as usize, fails);
+        self.answered(done)
     }
 
     fn sync(&mut self, area: Area) -> Result<(), DiskFailed>
         ensures counted { CountsCall (mem_calls self.old).made (mem_calls self.new).made (mem_faults self.old) (mem_faults self.new) result }
-        ensures kept { mem_areas self.new ≡ mem_areas self.old }
-        ensures synced { OnOk result (mem_synced self.new ≡ with_synced (mem_synced self.old) area true) }
-        ensures unsynced { OnErr result (mem_synced self.new ≡ mem_synced self.old) }
-        ensures fails { IsErr result ↔ IsFailing (mem_calls self.old) }
+        ensures synced { Syncs area result (mem_story self.old) (mem_story self.new) }
+        ensures areas { mem_areas self.new ≡ mem_areas self.old }
+        ensures due { OnOk result (¬ IsFailing (mem_calls self.old)) }
         ensures calls { mem_calls self.new ≡ one_more (mem_calls self.old) }
     {
+        let call = self.calls.made();
         self.begin()?;
-        self.set_synced(area, true);
-        Ok(())
+        let done = self.settle(call, area);
+        self.answered(done)
     }
 }
