@@ -49,4 +49,4 @@ pub record IsKeptBy (story : Story) (area : Area) (birth : ℕ) (payloads : List
 abbrev pub WritesSynced : Area → ℕ → List ℕ → {T : Type 0} → Result T DiskFailed → Story → Story → Type 0
 WritesSynced area at bytes (Ok done) old new =
     new ≡ tell (synced area) (tell (wrote area at (length bytes) (written (octets_of (reads old) area) at bytes)) old)
-WritesSynced area at bytes {T} (Err failed) old new = Writes area at bytes {T} (Err failed) old new
+WritesSynced area at bytes {T = T} (Err failed) old new = Writes area at bytes {T = T} (Err failed) old new
