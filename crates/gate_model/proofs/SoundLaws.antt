@@ -1,9 +1,8 @@
 -- What is sound is sound whoever has taken what, and whichever links are up.
-use Rattle.std.proofs.Common.{◌≡◌, refl, sym, ap, ◌∙◌, subst, ℕ, ◌==◌, Bool, true, false, cond, List, [], ◌∷◌, map, Option, Some, None}
+use Rattle.std.proofs.Common.{◌≡◌, refl, sym, ap, ◌∙◌, subst, ℕ, ◌==◌, true, false, cond, List, [], ◌∷◌, Option, Some, None}
 use Rattle.std.specs.Prelude.{◌&&◌, option_map, is_some, IsTrue}
 use Rattle.std.specs.List.{list_all}
 use Rattle.std.specs.Option.{option_map_or}
-use Rattle.sms_record.specs.declared.sms.Sms.{Sms}
 use Rattle.route_rules.specs.declared.rules.Rules.{Rules}
 use Rattle.gate_entries.specs.declared.cause.Cause.{Cause}
 use Rattle.gate_entries.specs.declared.cause.Cause.TheVariants.{Centre, Expired}
@@ -13,7 +12,7 @@ use Rattle.gate_model.specs.declared.waiting.Waiting.{Waiting}
 use Rattle.gate_model.specs.Numbers.{is_held, value_under, with_changes}
 use Rattle.gate_model.specs.State.{State}
 use Rattle.gate_model.specs.Fold.{Entry, recorded, passing, does, counts_entry, sms_of}
-use Rattle.gate_model.specs.Lawful.{IsLawful, IsSound, suits, may_end, has_expired, are_arrivals, are_distinct, is_time}
+use Rattle.gate_model.specs.Lawful.{IsLawful, IsSound, suits, may_end, has_expired, are_distinct, is_time}
 use Rattle.gate_model.specs.Fates.{AreSound}
 use Rattle.gate_model.specs.Settling.{settle, free_waiting, free_arrival, free_job, kept}
 use Rattle.gate_model.proofs.SettlingLaws.{settle-keeps, settle-passes}
