@@ -1,4 +1,4 @@
-pub mod Back
 pub mod Leaving
 pub mod Pasts
+pub mod Stops
 pub mod Told

@@ -23,11 +23,14 @@ octet_left settled ranges octet place = if nat_le (length settled) place || is_a
 
 -- What is left of an area: by 0 what was settled, by 1 what it reads as, and by any other octet that one at each place in doubt, in
 -- the length that it reads as.
+abbrev pub octets_left : List ℕ → List (ℕ × ℕ) → List ℕ → ℕ → List ℕ
+octets_left settled ranges octets choice =
+    if choice == 0 then settled
+    else if choice == 1 then octets
+    else map (octet_left settled ranges choice) (range_with_len 0 (length octets))
+
 abbrev pub stopped_octets : Past → ℕ → List ℕ
-stopped_octets past choice =
-    if choice == 0 then past.settled
-    else if choice == 1 then past.octets
-    else map (octet_left past.settled past.ranges choice) (range_with_len 0 (length past.octets))
+stopped_octets past choice = octets_left past.settled past.ranges past.octets choice
 
 -- ---- the log, its last entry first
 

@@ -2,7 +2,7 @@
 
 ghost use Rattle.std.specs.Prelude.{◌≡◌, ◌≤◌, length, map, reverse, IfOk};
 ghost use Rattle.std.specs.List.{range_with_len};
-ghost use Rattle.store_disk.specs.Stop.{covers, is_among, moment_at, octet_left, octets_through, ranges_in, settled_in};
+ghost use Rattle.store_disk.specs.Stop.{is_among, moment_at, octet_left, octets_left, octets_through, ranges_in, settled_in};
 
 use crate::Area;
 use crate::entry::Entry;
@@ -11,7 +11,8 @@ use std::alloc::Global;
 
 /// How many entries are of the calls up to a number.
 pub fn entries_up_to(log: &[Entry], call: u64) -> usize
-    ensures { result ≡ moment_at call (reverse log.now) }
+    ensures exact { result ≡ moment_at call (reverse log.now) }
+    ensures within { result ≤ length log.now }
 {
     for i in 0..log.len() {
         let left = log.len() - i;
@@ -39,7 +40,7 @@ pub fn before_all(
 }
 
 /// An area at its last good sync, or before all of these entries.
-pub fn settled(alloc: Global, log: &[Entry], area: Area, octets: Octets) -> Result<Octets, Memory>
+fn settled(alloc: Global, log: &[Entry], area: Area, octets: Octets) -> Result<Octets, Memory>
     ensures { IfOk result (λ settled. settled ≡ settled_in area (reverse log.now) octets) }
 {
     let mut before = octets;
@@ -54,7 +55,7 @@ pub fn settled(alloc: Global, log: &[Entry], area: Area, octets: Octets) -> Resu
 }
 
 /// Whether a place of an area was written since its last good sync.
-pub fn is_written(log: &[Entry], area: Area, place: usize) -> bool
+fn is_written(log: &[Entry], area: Area, place: usize) -> bool
     ensures { result ≡ is_among (ranges_in area (reverse log.now)) place }
 {
     for i in 0..log.len() {
@@ -70,7 +71,7 @@ pub fn is_written(log: &[Entry], area: Area, place: usize) -> bool
 }
 
 /// So many octets, with the one that is given at each place that was written since the last good sync and behind what was settled.
-pub fn doubted(
+fn doubted(
     alloc: Global,
     log: &[Entry],
     area: Area,
@@ -85,6 +86,28 @@ pub fn doubted(
         left.push(octet_at(log, area, settled, place, octet))?;
     }
     Ok(left)
+}
+
+/// What a stop leaves of an area that reads as these octets behind the entries: by 0 what was settled, by 1 what it reads as, and by
+/// any other octet that one at each place in doubt.
+pub fn left_by(
+    alloc: Global,
+    log: &[Entry],
+    area: Area,
+    octets: Octets,
+    choice: u8,
+) -> Result<Octets, Memory>
+    ensures { IfOk result (λ left. left ≡ octets_left (settled_in area (reverse log.now) octets) (ranges_in area (reverse log.now)) octets choice) }
+{
+    if choice == 1 {
+        return Ok(octets);
+    }
+    let len = octets.len();
+    let settled = settled(alloc, log, area, octets)?;
+    if choice == 0 {
+        return Ok(settled);
+    }
+    doubted(alloc, log, area, settled.as_slice(), len, choice)
 }
 
 /// The octet at one place of them.
