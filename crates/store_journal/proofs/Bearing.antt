@@ -173,6 +173,45 @@ bears_pick birth old new result small fresh commit =
       commit_leaves Pick 0 (1 ∷ []) result old new (IsUnbornOrFresh birth) commit (λ image is. fresh_image birth old image small fresh is) (λ image is. fresh_image birth commit.mid image small mid is),
     )
 
+-- ---- the three writes of a birth
+
+module _ {T : Type 0} (tells : Bool) (birth : ℕ) (octets : List ℕ) (same : octets ≡ area_text birth [] 0) where
+  at_text : (area : Area) (result : Result T DiskFailed) (old new : Story) → WritesSynced area 0 octets result old new → WritesSynced area 0 (area_text birth [] 0) result old new
+  at_text area result old new commit = subst (λ (l : List ℕ). WritesSynced area 0 l result old new) same commit
+
+  pub bears_first : (s0 s1 : Story) (result : Result T DiskFailed) → OnTrue tells (AreSmall most_unpicked s0) → OnTrue tells (WritesSynced A 0 octets result s0 s1) → OnTrue tells (LeavesOnly s0 s1 (IsUnbornOrFresh birth))
+  bears_first s0 s1 result small first = OnTrue_from tells _ (λ told. (bears_area birth s0 s1 A octets result (OnTrue_at told small) (omega (arith, ap length same)) (OnTrue_at told first)).1)
+
+  pub bears_second : (s0 s1 s2 : Story) (before result : Result T DiskFailed) → OnTrue tells (AreSmall most_unpicked s0) → OnTrue tells (WritesSynced A 0 octets before s0 s1) → OnTrue tells (WritesSynced B 0 octets result s1 s2)
+      → OnTrue tells (LeavesOnly s0 s2 (IsUnbornOrFresh birth))
+  bears_second s0 s1 s2 before result small first second = OnTrue_from tells _ (λ told.
+      let a = bears_area birth s0 s1 A octets before (OnTrue_at told small) (omega (arith, ap length same)) (OnTrue_at told first) in
+      let b = bears_area birth s1 s2 B octets result a.0 (omega (arith, ap length same)) (OnTrue_at told second) in
+      leaves_both s0 s1 s2 (IsUnbornOrFresh birth) a.1 b.1)
+
+  bears_third : (s0 s1 s2 s3 : Story) (one two : T) (result : Result T DiskFailed) → birth < 2 ^ 64 → AreSmall most_unpicked s0 → WritesSynced A 0 octets (Ok one) s0 s1 → WritesSynced B 0 octets (Ok two) s1 s2 → WritesSynced Pick 0 (1 ∷ []) result s2 s3
+      → OnOk result (IsKeptBy s3 A birth [] None) × LeavesOnly s0 s3 (IsUnbornOrFresh birth)
+  bears_third s0 s1 s2 s3 one two result fits small first second third =
+      let a = bears_area birth s0 s1 A octets (Ok one) small (omega (arith, ap length same)) first in
+      let b = bears_area birth s1 s2 B octets (Ok two) a.0 (omega (arith, ap length same)) second in
+      let sure_a : IsSure birth [] (past_of s2 A) = sure_other birth s1 s2 A B 0 octets (Ok two) refl second (bears_text birth s0 s1 A (Ok one) fits (at_text A (Ok one) s0 s1 first)) in
+      let sure_b : IsSure birth [] (past_of s2 B) = bears_text birth s1 s2 B (Ok two) fits (at_text B (Ok two) s1 s2 second) in
+      let p = bears_pick birth s2 s3 result fits (fresh_from birth s2 sure_a sure_b b.0) third in
+      (p.0, leaves_both s0 s2 s3 (IsUnbornOrFresh birth) (leaves_both s0 s1 s2 (IsUnbornOrFresh birth) a.1 b.1) p.1)
+
+  told_ok : (result : Result T DiskFailed) (P : Type 0) → OnTrue tells (OnOk result P) → OnOk result (OnTrue tells P)
+  told_ok (Ok done) P is = is
+  told_ok (Err failed) P is = tt
+
+  pub bears_store : (s0 s1 s2 s3 : Story) (one two : T) (result : Result T DiskFailed) → birth < 2 ^ 64 → OnTrue tells (AreSmall most_unpicked s0) → OnTrue tells (WritesSynced A 0 octets (Ok one) s0 s1)
+      → OnTrue tells (WritesSynced B 0 octets (Ok two) s1 s2) → OnTrue tells (WritesSynced Pick 0 (1 ∷ []) result s2 s3)
+      → OnOk result (OnTrue tells (IsKeptBy s3 A birth [] None)) × OnTrue tells (LeavesOnly s0 s3 (IsUnbornOrFresh birth))
+  bears_store s0 s1 s2 s3 one two result fits small first second third =
+      (
+        told_ok result (IsKeptBy s3 A birth [] None) (OnTrue_from tells _ (λ told. (bears_third s0 s1 s2 s3 one two result fits (OnTrue_at told small) (OnTrue_at told first) (OnTrue_at told second) (OnTrue_at told third)).0)),
+        OnTrue_from tells _ (λ told. (bears_third s0 s1 s2 s3 one two result fits (OnTrue_at told small) (OnTrue_at told first) (OnTrue_at told second) (OnTrue_at told third)).1),
+      )
+
 -- ---- an opening
 
 -- where nothing is done
@@ -192,3 +231,32 @@ opens_then old mid new first second =
     (leaves_weaker old mid (IsImage old) (λ image. (before : Areas) × IsImage old before × IsLike (stands before) (stands image)) (λ image is. (image, is, inl refl)) first)
     (leaves_weaker mid new (λ image. (before : Areas) × IsImage mid before × IsLike (stands before) (stands image)) (λ image. (before : Areas) × IsImage old before × IsLike (stands before) (stands image))
         (λ image is. (is.0, leaves_now old mid (IsImage old) first is.0 is.1, is.2)) second)
+
+-- ---- the syncs at the start
+
+sync_reads : {T : Type 0} (old new : Story) (area : Area) (result : Result T DiskFailed) → Syncs area result old new → reads new ≡ reads old
+sync_reads old new A (Ok done) syncs = ap reads syncs
+sync_reads old new B (Ok done) syncs = ap reads syncs
+sync_reads old new Pick (Ok done) syncs = ap reads syncs
+sync_reads old new area (Err failed) syncs = ap reads syncs
+
+own_rest : {T : Type 0} (old new : Story) (area : Area) (done : T) → Syncs area (Ok done) old new → past_of new area ≡ at_rest (past_of new area).octets
+own_rest old new area done syncs = let now = synced_past old new area done syncs in now ∙ ap at_rest (sym (ap (λ (past : Past). past.octets) now))
+
+other_rest : {T : Type 0} (old new : Story) (area other : Area) (result : Result T DiskFailed) → same_area area other ≡ false → Syncs other result old new → past_of old area ≡ at_rest (past_of old area).octets → past_of new area ≡ at_rest (past_of new area).octets
+other_rest old new area other result apart syncs rest = subst (λ (past : Past). past ≡ at_rest past.octets) (sym (other_sync old new area other result apart syncs)) rest
+
+module _ {T : Type 0} (tells : Bool) (s0 s1 s2 s3 : Story) (one two : T) (result : Result T DiskFailed) (first : OnTrue tells (Syncs A (Ok one) s0 s1)) (second : OnTrue tells (Syncs B (Ok two) s1 s2)) (third : OnTrue tells (Syncs Pick result s2 s3)) where
+  rests : (done : T) → Syncs A (Ok one) s0 s1 → Syncs B (Ok two) s1 s2 → Syncs Pick (Ok done) s2 s3 → AreAtRest s3
+  rests done a b p A = other_rest s2 s3 A Pick (Ok done) refl p (other_rest s1 s2 A B (Ok two) refl b (own_rest s0 s1 A one a))
+  rests done a b p B = other_rest s2 s3 B Pick (Ok done) refl p (own_rest s1 s2 B two b)
+  rests done a b p Pick = own_rest s2 s3 Pick done p
+
+  pub settles_stops : OnTrue tells (LeavesOnly s0 s3 (IsImage s0))
+  settles_stops = OnTrue_from tells _ (λ told. leaves_sync s0 s2 s3 Pick result (IsImage s0)
+      (leaves_sync s0 s1 s2 B (Ok two) (IsImage s0) (leaves_sync s0 s0 s1 A (Ok one) (IsImage s0) (leaves_first s0 (IsImage s0) (λ image is. is)) (OnTrue_at told first)) (OnTrue_at told second)) (OnTrue_at told third))
+
+-- two of them
+pub settles_two : {T : Type 0} (tells : Bool) (s0 s1 s2 : Story) (one result : Result T DiskFailed) → OnTrue tells (Syncs A one s0 s1) → OnTrue tells (Syncs B result s1 s2) → OnTrue tells (LeavesOnly s0 s2 (IsImage s0))
+settles_two tells s0 s1 s2 one result first second = OnTrue_from tells _ (λ told.
+    leaves_sync s0 s1 s2 B result (IsImage s0) (leaves_sync s0 s0 s1 A one (IsImage s0) (leaves_first s0 (IsImage s0) (λ image is. is)) (OnTrue_at told first)) (OnTrue_at told second))
