@@ -234,24 +234,7 @@ opens_then old mid new first second =
 
 -- ---- the syncs at the start
 
-sync_reads : {T : Type 0} (old new : Story) (area : Area) (result : Result T DiskFailed) → Syncs area result old new → reads new ≡ reads old
-sync_reads old new A (Ok done) syncs = ap reads syncs
-sync_reads old new B (Ok done) syncs = ap reads syncs
-sync_reads old new Pick (Ok done) syncs = ap reads syncs
-sync_reads old new area (Err failed) syncs = ap reads syncs
-
-own_rest : {T : Type 0} (old new : Story) (area : Area) (done : T) → Syncs area (Ok done) old new → past_of new area ≡ at_rest (past_of new area).octets
-own_rest old new area done syncs = let now = synced_past old new area done syncs in now ∙ ap at_rest (sym (ap (λ (past : Past). past.octets) now))
-
-other_rest : {T : Type 0} (old new : Story) (area other : Area) (result : Result T DiskFailed) → same_area area other ≡ false → Syncs other result old new → past_of old area ≡ at_rest (past_of old area).octets → past_of new area ≡ at_rest (past_of new area).octets
-other_rest old new area other result apart syncs rest = subst (λ (past : Past). past ≡ at_rest past.octets) (sym (other_sync old new area other result apart syncs)) rest
-
 module _ {T : Type 0} (tells : Bool) (s0 s1 s2 s3 : Story) (one two : T) (result : Result T DiskFailed) (first : OnTrue tells (Syncs A (Ok one) s0 s1)) (second : OnTrue tells (Syncs B (Ok two) s1 s2)) (third : OnTrue tells (Syncs Pick result s2 s3)) where
-  rests : (done : T) → Syncs A (Ok one) s0 s1 → Syncs B (Ok two) s1 s2 → Syncs Pick (Ok done) s2 s3 → AreAtRest s3
-  rests done a b p A = other_rest s2 s3 A Pick (Ok done) refl p (other_rest s1 s2 A B (Ok two) refl b (own_rest s0 s1 A one a))
-  rests done a b p B = other_rest s2 s3 B Pick (Ok done) refl p (own_rest s1 s2 B two b)
-  rests done a b p Pick = own_rest s2 s3 Pick done p
-
   pub settles_stops : OnTrue tells (LeavesOnly s0 s3 (IsImage s0))
   settles_stops = OnTrue_from tells _ (λ told. leaves_sync s0 s2 s3 Pick result (IsImage s0)
       (leaves_sync s0 s1 s2 B (Ok two) (IsImage s0) (leaves_sync s0 s0 s1 A (Ok one) (IsImage s0) (leaves_first s0 (IsImage s0) (λ image is. is)) (OnTrue_at told first)) (OnTrue_at told second)) (OnTrue_at told third))
@@ -260,3 +243,27 @@ module _ {T : Type 0} (tells : Bool) (s0 s1 s2 s3 : Story) (one two : T) (result
 pub settles_two : {T : Type 0} (tells : Bool) (s0 s1 s2 : Story) (one result : Result T DiskFailed) → OnTrue tells (Syncs A one s0 s1) → OnTrue tells (Syncs B result s1 s2) → OnTrue tells (LeavesOnly s0 s2 (IsImage s0))
 settles_two tells s0 s1 s2 one result first second = OnTrue_from tells _ (λ told.
     leaves_sync s0 s1 s2 B result (IsImage s0) (leaves_sync s0 s0 s1 A one (IsImage s0) (leaves_first s0 (IsImage s0) (λ image is. is)) (OnTrue_at told first)) (OnTrue_at told second))
+
+-- ---- a birth
+
+-- a store that isn't born is small, where that is told
+pub told_small : (tells : Bool) (story : Story) → OnTrue tells (AreAtRest story) → OnTrue tells (picked (reads story).pick ≡ None) → OnTrue tells (length (reads story).a ≤ 17) → OnTrue tells (length (reads story).b ≤ 17) → OnTrue tells (AreSmall most_unpicked story)
+told_small tells story rest none a b = OnTrue_from tells _ (λ told. small_rest story (OnTrue_at told rest) (OnTrue_at told none) (OnTrue_at told a) (OnTrue_at told b))
+
+-- nothing is done, which is told
+pub told_same : (tells : Bool) (old new : Story) → new ≡ old → OnTrue tells (OpensOver old new)
+told_same tells old new same = OnTrue_from tells _ (λ told. subst (λ s. OpensOver old s) (sym same) (opens_same old))
+
+-- a store is born
+pub told_born : (tells : Bool) (birth : ℕ) (old mid new : Story) → mid ≡ old → OnTrue tells (stands (reads old) ≡ unborn) → OnTrue tells (LeavesOnly mid new (IsUnbornOrFresh birth)) → OnTrue tells (OpensOver old new)
+told_born tells birth old mid new same none leaves = OnTrue_from tells _ (λ told. opens_unborn old new birth (OnTrue_at told none) (subst (λ s. LeavesOnly s new (IsUnbornOrFresh birth)) same (OnTrue_at told leaves)))
+
+-- and a store may be opened behind syncs
+pub told_then : (tells : Bool) (old mid new : Story) → OnTrue tells (LeavesOnly old mid (IsImage old)) → OnTrue tells (OpensOver mid new) → OnTrue tells (OpensOver old new)
+told_then tells old mid new first second = OnTrue_from tells _ (λ told. opens_then old mid new (OnTrue_at told first) (OnTrue_at told second))
+
+pub told_settled : (tells : Bool) (old new : Story) → OnTrue tells (LeavesOnly old new (IsImage old)) → OnTrue tells (OpensOver old new)
+told_settled tells old new leaves = OnTrue_from tells _ (λ told. opens_then old new new (OnTrue_at told leaves) (opens_same new))
+
+pub told_unborn : (tells : Bool) (story mid : Story) → mid ≡ story → OnTrue tells (picked (reads story).pick ≡ None) → OnTrue tells (length (reads story).a ≤ 17) → OnTrue tells (length (reads mid).b ≤ 17) → OnTrue tells (stands (reads story) ≡ unborn)
+told_unborn tells story mid same none a b = OnTrue_from tells _ (λ told. unborn_small (reads story) (OnTrue_at told none) (OnTrue_at told a) (subst (λ s. length (reads s).b ≤ 17) same (OnTrue_at told b)))
