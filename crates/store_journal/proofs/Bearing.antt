@@ -267,3 +267,31 @@ told_settled tells old new leaves = OnTrue_from tells _ (λ told. opens_then old
 
 pub told_unborn : (tells : Bool) (story mid : Story) → mid ≡ story → OnTrue tells (picked (reads story).pick ≡ None) → OnTrue tells (length (reads story).a ≤ 17) → OnTrue tells (length (reads mid).b ≤ 17) → OnTrue tells (stands (reads story) ≡ unborn)
 told_unborn tells story mid same none a b = OnTrue_from tells _ (λ told. unborn_small (reads story) (OnTrue_at told none) (OnTrue_at told a) (subst (λ s. length (reads s).b ≤ 17) same (OnTrue_at told b)))
+
+-- ---- what is found
+
+picks_long : (pick : List ℕ) (area : Area) → picked pick ≡ Some area → 1 ≤ length pick
+picks_long [] area is = absurd (cc)
+picks_long (first ∷ rest) area is = omega arith
+
+text_kept : (story : Story) (area : Area) (birth : ℕ) (payloads : List (List ℕ)) → AreAtRest story → picked (reads story).pick ≡ Some area → IsText (octets_of (reads story) area) birth payloads → IsKeptBy story area birth payloads None
+text_kept story area birth payloads rest picks text = record {
+  pick = subst (IsFirm 1) (sym (rest Pick)) (firm_rest 1 (reads story).pick (picks_long (reads story).pick area picks));
+  picks = picks;
+  text = subst (IsSure birth payloads) (sym (rest area)) (text_sure birth payloads (octets_of (reads story) area) text);
+}
+
+-- a text in the picked area of a disk at rest is kept
+pub kept_read : (tells : Bool) (before now : Story) (area : Area) (octets : List ℕ) (birth : ℕ) (payloads : List (List ℕ)) → now ≡ before → IsText octets birth payloads → OnTrue tells (picked (reads before).pick ≡ Some area) → OnTrue tells (AreAtRest before)
+    → OnTrue tells (octets ≡ octets_of (reads before) area) → OnTrue tells (IsKeptBy now area birth payloads None)
+kept_read tells before now area octets birth payloads same text picks rest read = OnTrue_from tells _ (λ told.
+    subst (λ s. IsKeptBy s area birth payloads None) (sym same)
+    (text_kept before area birth payloads (OnTrue_at told rest) (OnTrue_at told picks) (subst (λ (l : List ℕ). IsText l birth payloads) (OnTrue_at told read) text)))
+
+-- and an opening finds it
+pub stood_read : (tells : Bool) (before : Story) (area : Area) (octets : List ℕ) (new birth : ℕ) (payloads : List (List ℕ)) → IsText octets birth payloads → OnTrue tells (picked (reads before).pick ≡ Some area)
+    → OnTrue tells (octets ≡ octets_of (reads before) area) → OnTrue tells (OpensAs (stands (reads before)) new birth area payloads)
+stood_read tells before area octets new birth payloads text picks read = OnTrue_from tells _ (λ told.
+    subst (λ s. OpensAs s new birth area payloads)
+    (sym (stands_text (reads before) area birth payloads (OnTrue_at told picks) (subst (λ (l : List ℕ). IsText l birth payloads) (OnTrue_at told read) text)))
+    (refl, refl, refl))
