@@ -97,8 +97,7 @@ small_rest story rest none a b Pick = subst (IsSmall 0) (sym (rest Pick)) (rest_
 pub bears_area : {T : Type 0} (birth : ℕ) (old new : Story) (area : Area) (bytes : List ℕ) (result : Result T DiskFailed) → AreSmall most_unpicked old → length bytes ≤ most_unpicked area → WritesSynced area 0 bytes result old new
     → AreSmall most_unpicked new × LeavesOnly old new (IsUnbornOrFresh birth)
 bears_area birth old new area bytes result small le commit =
-    let mid : AreSmall most_unpicked commit.mid = small_write most_unpicked old commit.mid area bytes commit.wrote small le commit.writes in
-    (
+    let mid : AreSmall most_unpicked commit.mid = small_write most_unpicked old commit.mid area bytes commit.wrote small le commit.writes in (
       small_sync most_unpicked commit.mid new area result mid commit.syncs,
       commit_leaves area 0 bytes result old new (IsUnbornOrFresh birth) commit (λ image is. inl (unpicked_image old image small is)) (λ image is. inl (unpicked_image commit.mid image mid is)),
     )
@@ -134,9 +133,9 @@ fresh_image : (birth : ℕ) (story : Story) (image : Areas) → birth < 2 ^ 64 �
 fresh_image birth story image small fresh is = ⊎_elim
     (λ none. inl (unborn_small image none (small_image 17 (past_of story A) image.a (fresh.small A) (is A)) (small_image 17 (past_of story B) image.b (fresh.small B) (is B))))
     (λ some. ⊎_elim
-        (λ a. inr (A, stands_text image A birth [] a (sure_image birth [] (past_of story A) image.a small no_sizes fresh.a (is A))))
-        (λ b. inr (B, stands_text image B birth [] b (sure_image birth [] (past_of story B) image.b small no_sizes fresh.b (is B))))
-        some)
+    (λ a. inr (A, stands_text image A birth [] a (sure_image birth [] (past_of story A) image.a small no_sizes fresh.a (is A))))
+    (λ b. inr (B, stands_text image B birth [] b (sure_image birth [] (past_of story B) image.b small no_sizes fresh.b (is B))))
+    some)
     (which image.pick)
 
 more_small : (story : Story) → AreSmall most_unpicked story → AreSmall most_fresh story
@@ -167,8 +166,7 @@ bears_pick birth old new result small fresh commit =
       a = subst (IsSure birth []) (sym (other_write old commit.mid A Pick 0 (1 ∷ []) commit.wrote refl commit.writes)) fresh.a;
       b = subst (IsSure birth []) (sym (other_write old commit.mid B Pick 0 (1 ∷ []) commit.wrote refl commit.writes)) fresh.b;
       small = small_write most_fresh old commit.mid Pick (1 ∷ []) commit.wrote fresh.small (omega arith) commit.writes;
-    } in
-    (
+    } in (
       pick_rest birth old commit.mid new commit.wrote result commit.ok commit.writes commit.syncs (sure_other birth old new A Pick 0 (1 ∷ []) result refl commit fresh.a),
       commit_leaves Pick 0 (1 ∷ []) result old new (IsUnbornOrFresh birth) commit (λ image is. fresh_image birth old image small fresh is) (λ image is. fresh_image birth commit.mid image small mid is),
     )
@@ -206,11 +204,10 @@ module _ {T : Type 0} (tells : Bool) (birth : ℕ) (octets : List ℕ) (same : o
   pub bears_store : (s0 s1 s2 s3 : Story) (one two : T) (result : Result T DiskFailed) → birth < 2 ^ 64 → OnTrue tells (AreSmall most_unpicked s0) → OnTrue tells (WritesSynced A 0 octets (Ok one) s0 s1)
       → OnTrue tells (WritesSynced B 0 octets (Ok two) s1 s2) → OnTrue tells (WritesSynced Pick 0 (1 ∷ []) result s2 s3)
       → OnOk result (OnTrue tells (IsKeptBy s3 A birth [] None)) × OnTrue tells (LeavesOnly s0 s3 (IsUnbornOrFresh birth))
-  bears_store s0 s1 s2 s3 one two result fits small first second third =
-      (
-        told_ok result (IsKeptBy s3 A birth [] None) (OnTrue_from tells _ (λ told. (bears_third s0 s1 s2 s3 one two result fits (OnTrue_at told small) (OnTrue_at told first) (OnTrue_at told second) (OnTrue_at told third)).0)),
-        OnTrue_from tells _ (λ told. (bears_third s0 s1 s2 s3 one two result fits (OnTrue_at told small) (OnTrue_at told first) (OnTrue_at told second) (OnTrue_at told third)).1),
-      )
+  bears_store s0 s1 s2 s3 one two result fits small first second third = (
+    told_ok result (IsKeptBy s3 A birth [] None) (OnTrue_from tells _ (λ told. (bears_third s0 s1 s2 s3 one two result fits (OnTrue_at told small) (OnTrue_at told first) (OnTrue_at told second) (OnTrue_at told third)).0)),
+    OnTrue_from tells _ (λ told. (bears_third s0 s1 s2 s3 one two result fits (OnTrue_at told small) (OnTrue_at told first) (OnTrue_at told second) (OnTrue_at told third)).1),
+  )
 
 -- ---- an opening
 
@@ -230,7 +227,7 @@ opens_then old mid new first second =
     leaves_both old mid new (λ image. (before : Areas) × IsImage old before × IsLike (stands before) (stands image))
     (leaves_weaker old mid (IsImage old) (λ image. (before : Areas) × IsImage old before × IsLike (stands before) (stands image)) (λ image is. (image, is, inl refl)) first)
     (leaves_weaker mid new (λ image. (before : Areas) × IsImage mid before × IsLike (stands before) (stands image)) (λ image. (before : Areas) × IsImage old before × IsLike (stands before) (stands image))
-        (λ image is. (is.0, leaves_now old mid (IsImage old) first is.0 is.1, is.2)) second)
+    (λ image is. (is.0, leaves_now old mid (IsImage old) first is.0 is.1, is.2)) second)
 
 -- ---- the syncs at the start
 
