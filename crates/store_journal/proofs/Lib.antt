@@ -1,5 +1,6 @@
-pub mod Readers
+pub mod Bearing
+pub mod Keeping
 pub mod Kept
-pub mod Reopened
+pub mod Readers
 pub mod Texts
 pub mod Units

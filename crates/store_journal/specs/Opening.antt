@@ -6,8 +6,8 @@ use Rattle.exact_octets.specs.declared.read_fault.ReadFault.TheVariants as fault
 use Rattle.exact_octets.specs.Reading.{many}
 use Rattle.store_disk.specs.Disk.{Areas, octets_of}
 use Rattle.store_disk.specs.Story.{Past, Story, at_rest, past_of, reads}
-use Rattle.store_journal.specs.Area.{born, foreign, unborn, stands, header, header_at, reading, fault_place, gate_place, unit, units, unit_at, area_text, payloads_in, behind_units, IsPayload}
-use Rattle.store_journal.specs.Keeping.{IsKeptBy, Stays}
+use Rattle.store_journal.specs.Area.{born, foreign, unborn, stands, header, header_at, reading, fault_place, gate_place, unit, units, unit_at, payloads_in, behind_units, IsPayload}
+use Rattle.store_journal.specs.Keeping.{IsKeptBy, IsSure}
 use Rattle.store_journal.specs.Journal.{OpensAs}
 use Rattle.store_disk.specs.declared.area.Area.{Area}
 use Rattle.store_disk.specs.declared.area.Area.TheVariants.{A, B, Pick}
@@ -72,16 +72,25 @@ pub record IsSmall (most : ℕ) (past : Past) : Type 0 where
   pub reads : length past.octets ≤ most
   pub greatest : past.greatest ≤ most
 
--- Before Pick is written in a birth, a stop leaves a store that isn't born.
-pub record IsBare (story : Story) : Type 0 where
-  pub a : IsSmall 17 (past_of story A)
-  pub b : IsSmall 17 (past_of story B)
-  pub pick : IsSmall 0 (past_of story Pick)
+abbrev pub AreSmall : (Area → ℕ) → Story → Type 0
+AreSmall most story = (area : Area) → IsSmall (most area) (past_of story area)
 
--- Before that both areas keep no payloads, so that it doesn't matter which one is picked.
+-- the most octets that the areas have in a birth, before Pick is written and after it
+abbrev pub most_unpicked : Area → ℕ
+most_unpicked A = 17
+most_unpicked B = 17
+most_unpicked Pick = 0
+
+abbrev pub most_fresh : Area → ℕ
+most_fresh A = 17
+most_fresh B = 17
+most_fresh Pick = 1
+
+-- Both areas keep a store without payloads, so that it doesn't matter which of them a stop picks, or whether it picks one.
 pub record AreFresh (birth : ℕ) (story : Story) : Type 0 where
-  pub a : Stays 0 (area_text birth [] 0) (past_of story A)
-  pub b : Stays 0 (area_text birth [] 0) (past_of story B)
+  pub a : IsSure birth [] (past_of story A)
+  pub b : IsSure birth [] (past_of story B)
+  pub small : AreSmall most_fresh story
 
 -- areas are a store that isn't born, or one that was born without payloads
 abbrev pub IsUnbornOrFresh : ℕ → Areas → Type 0
