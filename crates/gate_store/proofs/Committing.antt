@@ -68,7 +68,6 @@ module _ {D : Type 0} (tells : Bool) (story : D → Story) (faults calls : D →
   module _ (is_open : IsOpen tells story old) (gate : new.gate ≡ old.gate) (born : birth_in new ≡ birth_in old) (stays : left new.journal ≡ left old.journal)
       (same_reserved : reserved new.journal ≡ reserved old.journal) (kept : faults (disk_in old) ≤ faults (disk_in new))
       (bounded : calls (disk_in new) ≤ calls (disk_in old) + 2) where
-
     store_now : (birth : ℕ) (entries : List Recorded) (unsure : Option Recorded) → IsStore tells story old birth entries → unsure_in new ≡ unsure
         → IsJournal tells story new.journal birth (payloads entries) (option_map entry_octets unsure) → UnsureComesNext (rules_in old) entries unsure
         → IsStore tells story new birth entries
@@ -127,7 +126,6 @@ module _ {D : Type 0} (tells : Bool) (story : D → Story) (faults calls : D →
       (few : (state_in old).entries < most_entries) (ruled : rules_in new ≡ rules_in old) (born : birth_in new ≡ birth_in old)
       (handed : IsHandedOut new.journal) (whole : IsGate new.gate) (kept : faults (disk_in old) ≤ faults (disk_in new))
       (bounded : calls (disk_in new) ≤ calls (disk_in old) + 4) where
-
     -- the journal of the store before, in which nothing was unsure
     journal_before : (birth : ℕ) (entries : List Recorded) → IsStore tells story old birth entries → IsJournal tells story old.journal birth (payloads entries) None
     journal_before birth entries is = subst (λ (u : Option Recorded). IsJournal tells story old.journal birth (payloads entries) (option_map entry_octets u)) none is.journal
@@ -144,7 +142,7 @@ module _ {D : Type 0} (tells : Bool) (story : D → Story) (faults calls : D →
         subst (λ (u : Option Recorded). OnTrue tells (LeavesOnly (story (disk_in old)) (story (disk_in new)) (MayReopenIn (rules_in old) (state_in old) u entry))) (sym none)
         (told_leaves_weaker tells (story (disk_in old)) (story (disk_in new)) _ _
         (λ image holds. may_reopen_in (rules_in old) entries (state_in old) is.in_turn is.state birth (area_of old.journal) image entry next
-            (subst (λ octets. MayHold birth (area_of old.journal) (payloads entries) (Some octets) image) is_reserved holds))
+        (subst (λ octets. MayHold birth (area_of old.journal) (payloads entries) (Some octets) image) is_reserved holds))
         stops)
 
     -- it was appended, and done
@@ -161,7 +159,7 @@ module _ {D : Type 0} (tells : Bool) (story : D → Story) (faults calls : D →
       unsure = tt;
       holds = λ birth entries is.
           let journal = subst (λ octets. IsJournal tells story new.journal birth (payloads entries ++ octets ∷ []) None) is_reserved
-              (appended birth (payloads entries) (journal_before birth entries is)).ok in
+          (appended birth (payloads entries) (journal_before birth entries is)).ok in
           make_store tells story new (rules_in old) birth (entries ++ entry ∷ []) None ruled sure
           (subst (λ ps. IsJournal tells story new.journal birth ps None) (sym (payloads_more entries entry)) journal) handed
           (in_turn_more (start (rules_in old)) entries entry is.in_turn (comes_next tells story old birth entries entry is may few)) tt whole

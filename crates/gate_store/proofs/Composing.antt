@@ -49,8 +49,8 @@ module _ {D : Type 0} (tells : Bool) (story : D → Story) (faults calls : D →
       → MayReopenIn (rules_in mid) (state_in mid) (unsure_in mid) entry image → MayReopenIn (rules_in old) (state_in old) (unsure_in old) entry image
   stops_behind ruled state sure image may =
       let there = subst (λ (u : Option Recorded). MayReopenIn (rules_in old) (state_in old) u entry image) sure
-          (subst (λ (s : State). MayReopenIn (rules_in old) s (unsure_in mid) entry image) state
-          (subst (λ (r : Rules). MayReopenIn r (state_in mid) (unsure_in mid) entry image) ruled may)) in
+      (subst (λ (s : State). MayReopenIn (rules_in old) s (unsure_in mid) entry image) state
+      (subst (λ (r : Rules). MayReopenIn r (state_in mid) (unsure_in mid) entry image) ruled may)) in
       ⊎_elim (λ before. inl (surely (rules_in old) (state_in old) (unsure_in old) image before)) (λ with_it. inr with_it) there
 
   -- a fault behind a repair rose

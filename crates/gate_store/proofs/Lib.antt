@@ -4,6 +4,7 @@ pub mod Composing
 pub mod Counting
 pub mod Handed
 pub mod Loading
+pub mod Opening
 pub mod Passing
 pub mod Recording
 pub mod Refusals

@@ -4,7 +4,9 @@ use Rattle.std.proofs.lemmas.List.{append-nil}
 use Rattle.gate_entries.specs.declared.recorded.Recorded.{Recorded}
 use Rattle.gate_entries.specs.Entry.{entry_octets}
 use Rattle.gate_model.specs.Fold.{does, recorded}
-use Rattle.gate_model.specs.Gate.{IsGate, rules_of}
+use Rattle.gate_model.specs.Gate.{IsGate, model_of, rules_of}
+use Rattle.gate_model.specs.Settling.{settle}
+use Rattle.gate_model.specs.declared.gate.Gate.{Gate}
 use Rattle.gate_model.specs.Loading.{gate_in, loaded, IsTaken, IsOutside, ComesNext}
 use Rattle.gate_model.specs.State.{State}
 use Rattle.gate_model.specs.declared.loader.Loader.{Loader}
@@ -15,6 +17,11 @@ use Rattle.store_journal.proofs.Keeping.{gate_more}
 use Rattle.store_journal.specs.Journal.{IsJournal, HoldsSame, Hands, MovesOn, disk_of, area_of, birth_of, left, gate_of, next_gate}
 use Rattle.store_journal.specs.declared.journal.Journal.{Journal}
 use Rattle.gate_store.specs.Entries.{payloads, start, state_of, AreInTurn, StopsAt}
+use Rattle.gate_store.specs.Store.{rules_in}
+use Rattle.gate_store.specs.StoreSteps.{Loads}
+use Rattle.gate_store.specs.declared.store.Store.{Store}
+use Rattle.gate_store.proofs.Commits.{settle-state_of}
+use Rattle.gate_store.proofs.Recording.{make_store}
 use Rattle.gate_store.proofs.Turns.{after_more, in_turn_more, payloads_more}
 
 -- the closed gate moves on by a unit
@@ -23,6 +30,13 @@ gate_place_more there payload =
     let size : length (unit payload) ≡ 5 + length payload = omega arith in
     let more : gate_place (there ++ payload ∷ []) ≡ gate_place there + length (unit payload) = gate_more there payload in
     omega (arith, more, size)
+
+some_is : {T : Type 0} (a b : T) → Some a ≡ Some b → a ≡ b
+some_is a b same = cc
+
+-- nothing was left, and nothing is
+handed_none : (before now : List (List ℕ)) (handed : Option (List ℕ)) → Hands before (Ok handed) now → handed ≡ None → (before ≡ []) × (now ≡ [])
+handed_none before now handed hands is = let P : Option (List ℕ) → Type 0 = λ h. Hands before (Ok h) now in subst P is hands
 
 -- The entries so far are those in front of what is left to hand out, each in its turn, and the loader has read them.
 pub record HasLoaded {D : Type 0} (tells : Bool) (story : D → Story) (rules : Rules) (first now : Journal D) (loader : Loader) : Type 0 where
@@ -97,6 +111,31 @@ module _ {D : Type 0} (tells : Bool) (story : D → Story) (rules : Rules) (firs
   -- the entries are all that there is
   pub all_loaded : (now : Journal D) (loader : Loader) (h : HasLoaded tells story rules first now loader) → left now ≡ [] → left first ≡ payloads h.entries
   all_loaded now loader h ended = h.split ∙ ap (λ x. payloads h.entries ++ x) ended ∙ append-nil (payloads h.entries)
+
+  -- a store over them
+  pub loads_all : (now next : Journal D) (loader : Loader) (store : Store D) (handed : Option (List ℕ)) → HasLoaded tells story rules first now loader
+      → Hands (left now) (Ok handed) (left next) → handed ≡ None → HoldsSame tells story now next → disk_of next ≡ disk_of now → birth_of next ≡ birth_of now
+      → store.journal ≡ next → Some store.gate ≡ Some (gate_in loader) → store.unsure ≡ None → Loads tells story rules first store
+  loads_all now next loader store handed h hands none same disk born journal gates sure =
+      let ended = handed_none (left now) (left next) handed hands none in
+      let gate : store.gate ≡ gate_in loader = some_is store.gate (gate_in loader) gates in
+      let all = all_loaded now loader h ended.0 in
+      let ruled : rules_in store ≡ rules = ap rules_of gate ∙ h.ruled in
+      let held : IsJournal tells story store.journal (birth_of first) (payloads h.entries) None =
+      subst (λ (j : Journal D). IsJournal tells story j (birth_of first) (payloads h.entries) None) (sym journal)
+      (subst (λ ps. IsJournal tells story next (birth_of first) ps None) all (same (birth_of first) (left first) None h.journal)) in
+      record {
+        entries = h.entries;
+        ruled = ruled;
+        born = ap (λ (j : Journal D). birth_of j) journal ∙ born ∙ h.journal.born;
+        handed = all;
+        holds = make_store tells story store rules (birth_of first) h.entries None ruled sure held
+            (ap (λ (j : Journal D). left j) journal ∙ ended.1) h.in_turn tt (subst (λ (g : Gate). IsGate g) (sym gate) h.whole)
+            (ap (λ (g : Gate). settle (model_of g)) gate ∙ ap settle h.state ∙ settle-state_of rules h.entries);
+        state = ap (λ (g : Gate). model_of g) gate ∙ h.state;
+        sure = sure;
+        disk = ap (λ (j : Journal D). disk_of j) journal ∙ disk ∙ h.disk;
+      }
 
 -- the payload that was handed out stood first
 pub handed_first : (before now : List (List ℕ)) (handed : Option (List ℕ)) (payload : List ℕ) → Hands before (Ok handed) now → handed ≡ Some payload

@@ -90,7 +90,7 @@ module _ {D : Type 0} (tells : Bool) (story : D → Story) (faults calls : D →
       → IsOpen tells story old → Performs tells story faults calls old kept (Err why) new
   unmoved old new kept why other reason ruled born state unsure disk holds is_open =
       let none = told_leaves_none tells (story (disk_in old)) (MayReopenIn (rules_in old) (state_in old) (unsure_in old) kept)
-          (told_weaker tells _ _ (λ now image is. inl (now image is)) (stops_now tells story old is_open.0 is_open.1 is_open.2)) in
+      (told_weaker tells _ _ (λ now image is. inl (now image is)) (stops_now tells story old is_open.0 is_open.1 is_open.2)) in
       record {
         reason = reason;
         ruled = ruled;

@@ -11,4 +11,4 @@ pub returns-clause-stops : goal.returns-clause-stops
 returns-clause-stops g c = λ birth entries is.
     let store = c.args.self in
     let P : g.row.D.Denot → Type 0 = λ d. OnTrue g.D.Disk.tells ((image : Areas) → IsImage (g.D.Disk.story d) image → MayReopen (rules_in store) (state_in store) (unsure_in store) image) in
-    subst P (sym c.close.ensures) (stops_now g.D.Disk.tells g.D.Disk.story store birth entries is)
+    subst P (sym c.close.ensures.disk) (stops_now g.D.Disk.tells g.D.Disk.story store birth entries is)

@@ -1,8 +1,9 @@
-use Rattle.std.proofs.Common.{◌≡◌, List, ℕ, Err, refl, ap, ◌∙◌, subst}
+use Rattle.std.proofs.Common.{◌≡◌, List, ℕ, None, Err, refl, ap, sym, ◌∙◌, subst}
 use Rattle.gate_model.specs.Loading.{gate_in, loaded, IsOutside, IsTaken}
 use Rattle.gate_model.specs.declared.load_fault.LoadFault.{LoadFault}
 use Rattle.store_journal.specs.Journal.{birth_of, left}
-use Rattle.gate_store.proofs.Loading.{HasLoaded-nil, HasLoaded-more, handed_first, moved_on, stops_at}
+use Rattle.gate_store.proofs.Loading.{HasLoaded-nil, HasLoaded-more, handed_first, loads_all, moved_on, stops_at}
+use Rattle.gate_store.specs.declared.store.Store.{Store}
 use Rattle.gate_store.proofs.store.entries.load.Goals as goal
 
 pub loop-payload-init : goal.loop-payload-init
@@ -20,3 +21,11 @@ loop-payload-preserved g c =
     (moved_on now next c.in-Ok-Some.field-0 payload c.in-Ok-Some.ensures.gate c.in-Ok-Some.field-0-is).1
     (subst (λ (p : List ℕ). IsTaken p (loaded c.loop-payload.loader) (loaded c.put.new.self)) c.as_slice.ensures c.in-Ok-put.ensures.taken)
     c.put.ensures.whole c.put.ensures.rules
+
+pub returns-clause-ok : goal.returns-clause-ok
+returns-clause-ok g c =
+    let now = c.loop-payload.journal in
+    let next = c.next.new.self in
+    let store : Store g.row.D.Denot = record { alloc = c.args.alloc; journal = next; gate = c.in-Some.gate; unsure = None } in
+    loads_all g.D.Disk.tells g.D.Disk.story c.args.rules c.args.journal now next c.loop-payload.loader store c.in-Ok-None.field-0 c.loop-payload.invariant
+    c.in-Ok-None.ensures.next c.in-Ok-None.field-0-is c.next.ensures.same c.next.ensures.disk c.next.ensures.birth refl (sym c.in-Some.is ∙ c.whole.ensures) refl

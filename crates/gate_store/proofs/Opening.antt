@@ -1,0 +1,150 @@
+-- What a disk stood for, and what a store that was opened on it holds.
+use Rattle.std.proofs.Common.{◌≡◌, ◌≤◌, ◌+◌, ◌⊎◌, inl, inr, ⊎_elim, ℕ, Bool, true, false, List, [], ◌∷◌, ◌++◌, refl, ap, sym, ◌∙◌, subst, arith}
+use Rattle.std.specs.Bool.{OnTrue}
+use Rattle.kn_base.specs.Count.{Rose}
+use Rattle.gate_entries.specs.declared.recorded.Recorded.{Recorded}
+use Rattle.gate_model.specs.State.{State}
+use Rattle.route_rules.specs.declared.rules.Rules.{Rules}
+use Rattle.store_disk.specs.Disk.{Areas}
+use Rattle.store_disk.specs.Story.{Story, LeavesOnly, IsImage, reads}
+use Rattle.store_disk.specs.declared.area.Area.{Area}
+use Rattle.store_disk.proofs.Leaving.{leaves_weaker}
+use Rattle.store_journal.specs.Area.{Standing, unborn, born, foreign, stands}
+use Rattle.store_journal.specs.Journal.{IsCause, IsLike, IsUnlessDisk, IsUntouched, OpensAs, OpensOver, disk_of, area_of, birth_of, left}
+use Rattle.store_journal.specs.declared.fault.OpenFault.{OpenFault}
+use Rattle.store_journal.specs.declared.fault.OpenFault.TheVariants as journal_is
+use Rattle.store_journal.specs.declared.journal.Journal.{Journal}
+use Rattle.gate_store.specs.Entries.{payloads, StandsFor, StopsAt, IsForeign}
+use Rattle.gate_store.specs.Reopening.{Reopens, ReopensAlike}
+use Rattle.gate_store.specs.Store.{IsStore, IsOpened, IsUnopened, GivesBack, birth_in, disk_in}
+use Rattle.gate_store.specs.StoreFault.{same_fault}
+use Rattle.gate_store.specs.StoreSteps.{Loads, LoadsNone}
+use Rattle.gate_store.specs.declared.store.Store.{Store}
+use Rattle.gate_store.specs.declared.store_fault.StoreFault.{StoreFault}
+use Rattle.gate_store.specs.declared.store_fault.StoreFault.TheVariants.{Foreign, Disk, Memory}
+use Rattle.gate_store.proofs.Told.{told_weaker}
+
+-- ---- what areas stand for
+
+no_entries : (entries : List Recorded) → [] ≡ payloads entries → entries ≡ []
+no_entries [] e = refl
+no_entries (kept ∷ entries) e = absurd cc
+
+-- an opening that found these entries found the store of that birth with them
+pub stands_for : (standing : Standing) (birth now : ℕ) (area : Area) (there : List (List ℕ)) (entries : List Recorded)
+    → there ≡ payloads entries → OpensAs standing birth now area there → StandsFor standing now entries
+stands_for unborn birth now area there entries same opens = no_entries entries (sym opens.2 ∙ same)
+stands_for (born old stood_in stood) birth now area there entries same opens = (sym opens.0, sym opens.2 ∙ same)
+stands_for (foreign stood_in at) birth now area there entries same opens = absurd opens
+
+-- a store that wasn't born before is born with the birth that was handed in
+pub born_with : (standing : Standing) (birth now : ℕ) (area : Area) (there : List (List ℕ)) → OpensAs standing birth now area there
+    → standing ≡ unborn → now ≡ birth
+born_with unborn birth now area there opens is = opens.0
+born_with (born old stood_in stood) birth now area there opens is = absurd cc
+born_with (foreign stood_in at) birth now area there opens is = absurd cc
+
+none_stops : (rules : Rules) (at : ℕ) (there : List (List ℕ)) → there ≡ [] → StopsAt rules there at → ⊥
+none_stops rules at there none stops = none_split stops.entries (sym none ∙ stops.split)
+  where
+    none_split : (entries : List Recorded) → [] ≡ payloads entries ++ stops.payload ∷ stops.rest → ⊥
+    none_split [] e = absurd cc
+    none_split (kept ∷ entries) e = absurd cc
+
+-- an opening that found a payload that is no entry which may come next found no store
+pub stands_foreign : (rules : Rules) (standing : Standing) (birth now : ℕ) (found area : Area) (there : List (List ℕ)) (at : ℕ)
+    → area ≡ found → StopsAt rules there at → OpensAs standing birth now found there → IsForeign rules standing area at
+stands_foreign rules unborn birth now found area there at is stops opens = none_stops rules at there opens.2 stops
+stands_foreign rules (born old stood_in stood) birth now found area there at is stops opens = (is ∙ opens.1, subst (λ x. StopsAt rules x at) opens.2 stops)
+stands_foreign rules (foreign stood_in at_there) birth now found area there at is stops opens = absurd opens
+
+-- ---- what a stop in an opening leaves
+
+-- areas that stand for what others stood for reopen to what these reopen to
+like_reopens : (rules : Rules) (before image : Areas) → IsLike (stands before) (stands image) → (state : State) → Reopens rules before state → Reopens rules image state
+like_reopens rules before image (inl same) state r = record {
+  birth = r.birth;
+  entries = r.entries;
+  stood = subst (λ s. StandsFor s r.birth r.entries) (sym same) r.stood;
+  in_turn = r.in_turn;
+  makes = r.makes;
+}
+like_reopens rules before image (inr new) state r =
+    let none : r.entries ≡ [] = subst (λ s. StandsFor s r.birth r.entries) new.0 r.stood in
+    record {
+      birth = new.1;
+      entries = r.entries;
+      stood = subst (λ s. StandsFor s new.1 r.entries) (sym new.3) (refl, ap payloads (sym none));
+      in_turn = r.in_turn;
+      makes = r.makes;
+    }
+
+pub opens_alike : (rules : Rules) (old new : Story) → OpensOver old new → ReopensAlike rules old new
+opens_alike rules old new opens = leaves_weaker old new _ _ (λ image x. (x.0, x.1, like_reopens rules x.0 image x.2)) opens
+
+module _ {D : Type 0} (tells : Bool) (story : D → Story) (faults calls : D → ℕ) (disk : D) (rules : Rules) (birth : ℕ) (journal : Journal D) where
+  module _ (stood : OnTrue tells (OpensAs (stands (reads (story disk))) birth (birth_of journal) (area_of journal) (left journal)))
+      (stops : OnTrue tells (OpensOver (story disk) (story (disk_of journal)))) (unfailed : faults (disk_of journal) ≡ faults disk)
+      (bounded : calls (disk_of journal) ≤ calls disk + 13) where
+    -- a journal that was opened, whose entries were loaded, is an opened store
+    pub opened_by : (store : Store D) → Loads tells story rules journal store → IsOpened tells story faults calls disk rules birth store
+    opened_by store loads = record {
+      entries = loads.entries;
+      holds = subst (λ b. IsStore tells story store b loads.entries) (sym loads.born) loads.holds;
+      stood = told_weaker tells _ _
+          (λ opens. subst (λ b. StandsFor (stands (reads (story disk))) b loads.entries) (sym loads.born)
+          (stands_for (stands (reads (story disk))) birth (birth_of journal) (area_of journal) (left journal) loads.entries loads.handed opens)) stood;
+      born = told_weaker tells _ _
+          (λ opens is. loads.born ∙ born_with (stands (reads (story disk))) birth (birth_of journal) (area_of journal) (left journal) opens is) stood;
+      ruled = loads.ruled;
+      state = loads.state;
+      sure = loads.sure;
+      stops = subst (λ (d : D). OnTrue tells (ReopensAlike rules (story disk) (story d))) (sym loads.disk)
+          (told_weaker tells _ _ (opens_alike rules (story disk) (story (disk_of journal))) stops);
+      unfailed = ap faults loads.disk ∙ unfailed;
+      bounded = let same : calls (disk_in store) ≡ calls (disk_of journal) = ap calls loads.disk in omega (arith, bounded, same);
+    }
+
+    -- why what was left of a journal wasn't loaded
+    unloaded_by : (back : D) (fault : StoreFault) → LoadsNone tells story rules journal back fault → IsUnopened tells story faults disk rules back fault
+    unloaded_by back (Foreign area at) none = (
+      ap faults none.same ∙ unfailed,
+      told_weaker tells _ _
+          (stands_foreign rules (stands (reads (story disk))) birth (birth_of journal) (area_of journal) area (left journal) at none.cause.0 none.cause.1) stood,
+    )
+    unloaded_by back Disk none = absurd none.cause
+    unloaded_by back Memory none = ap faults none.same ∙ unfailed
+
+    -- a journal that was opened, whose entries weren't loaded, is no opened store
+    pub given_back : OnTrue tells (IsUntouched (reads (story disk)) (reads (story (disk_of journal)))) → (back : D) (fault : StoreFault)
+        → LoadsNone tells story rules journal back fault → GivesBack tells story faults calls disk rules back fault
+    given_back untouched back fault none = record {
+      cause = unloaded_by back fault none;
+      untouched = subst (λ (d : D). OnTrue tells (IsUntouched (reads (story disk)) (reads (story d)))) (sym none.same) untouched;
+      stops = subst (λ (d : D). OnTrue tells (ReopensAlike rules (story disk) (story d))) (sym none.same)
+          (told_weaker tells _ _ (opens_alike rules (story disk) (story (disk_of journal))) stops);
+      kept = let same : faults back ≡ faults disk = ap faults none.same ∙ unfailed in omega arith;
+      bounded = let same : calls back ≡ calls (disk_of journal) = ap calls none.same in omega (arith, bounded, same);
+    }
+
+module _ {D : Type 0} (tells : Bool) (story : D → Story) (faults calls : D → ℕ) (disk : D) (rules : Rules) (back : D) where
+  -- why no journal was opened
+  unopened_by : (fault : OpenFault) → OnTrue tells (IsCause (reads (story disk)) fault) → IsUnlessDisk fault (faults back ≡ faults disk)
+      → (fault ≡ journal_is.Disk → Rose (faults disk) (faults back)) → IsUnopened tells story faults disk rules back (same_fault fault)
+  unopened_by (journal_is.Foreign area at) cause spared failed =
+      (spared, told_weaker tells _ _ (λ is. subst (λ s. IsForeign rules s area at) (sym is) (refl, refl)) cause)
+  unopened_by journal_is.Disk cause spared failed = failed refl
+  unopened_by journal_is.Memory cause spared failed = spared
+
+  -- no journal was opened
+  pub unopened : (fault : OpenFault) (told : StoreFault) → told ≡ same_fault fault → OnTrue tells (IsCause (reads (story disk)) fault)
+      → IsUnlessDisk fault (faults back ≡ faults disk) → (fault ≡ journal_is.Disk → Rose (faults disk) (faults back)) → faults disk ≤ faults back
+      → OnTrue tells (IsUntouched (reads (story disk)) (reads (story back))) → OnTrue tells (OpensOver (story disk) (story back))
+      → calls back ≤ calls disk + 13 → GivesBack tells story faults calls disk rules back told
+  unopened fault told is cause spared failed kept untouched stops bounded = record {
+    cause = subst (λ f. IsUnopened tells story faults disk rules back f) (sym is) (unopened_by fault cause spared failed);
+    untouched = untouched;
+    stops = told_weaker tells _ _ (opens_alike rules (story disk) (story back)) stops;
+    kept = kept;
+    bounded = omega (arith, bounded);
+  }
