@@ -1,6 +1,6 @@
 -- An entry that is put last in the journal of a store: what is unsure is taken back, then it is appended.
-use Rattle.std.proofs.Common.{◌≡◌, ◌≤◌, ◌+◌, ◌<◌, ◌⊎◌, inl, inr, ⊎_elim, ℕ, Bool, true, false, List, [], ◌∷◌, ◌++◌, Option, Some, None, Result, Ok, Err, refl, ap, sym, ◌∙◌, subst, arith}
-use Rattle.std.specs.Prelude.{option_map, OnOk, OnErr, if◌then◌else◌}
+use Rattle.std.proofs.Common.{◌≡◌, ◌≤◌, ◌+◌, ◌<◌, ◌⊎◌, inl, inr, ℕ, Bool, true, false, List, [], ◌∷◌, ◌++◌, Option, Some, None, Result, Ok, Err, refl, ap, sym, ◌∙◌, subst}
+use Rattle.std.specs.Prelude.{option_map, if◌then◌else◌}
 use Rattle.std.specs.Bool.{OnTrue}
 use Rattle.std.proofs.lemmas.List.{append-nil}
 use Rattle.kn_base.specs.Count.{Rose}
@@ -8,13 +8,12 @@ use Rattle.gate_entries.specs.declared.recorded.Recorded.{Recorded}
 use Rattle.gate_entries.specs.Entry.{entry_octets}
 use Rattle.gate_model.specs.Fold.{does, recorded}
 use Rattle.gate_model.specs.Gate.{IsGate, model_of, rules_of}
-use Rattle.gate_model.specs.Lawful.{refusal, most_entries}
+use Rattle.gate_model.specs.Lawful.{most_entries}
 use Rattle.gate_model.specs.Loading.{ComesNext}
 use Rattle.gate_model.specs.Replies.{reply_to}
 use Rattle.gate_model.specs.Settling.{settle}
 use Rattle.gate_model.specs.State.{State}
 use Rattle.gate_model.specs.declared.gate.Gate.{Gate}
-use Rattle.gate_model.specs.declared.reply.Refusal.TheVariants.{Disk}
 use Rattle.gate_model.specs.declared.reply.Reply.{Reply}
 use Rattle.route_rules.specs.declared.rules.Rules.{Rules}
 use Rattle.store_disk.specs.Disk.{Areas}
@@ -22,16 +21,15 @@ use Rattle.store_disk.specs.Story.{Story, LeavesOnly}
 use Rattle.store_disk.specs.declared.disk.DiskFailed.{DiskFailed}
 use Rattle.store_journal.specs.Journal.{IsJournal, IsHandedOut, Appends, Repairs, MayHold, area_of, is_unsure, left, reserved}
 use Rattle.store_journal.specs.declared.journal.Journal.{Journal}
-use Rattle.gate_store.specs.Deeds.{Performs}
 use Rattle.gate_store.specs.Entries.{payloads, start, state_of}
 use Rattle.gate_store.specs.Reopening.{ReopensTo, MayReopen, MayReopenIn}
 use Rattle.gate_store.specs.Store.{IsStore, IsOpen, disk_in, birth_in, rules_in, state_in, unsure_in}
-use Rattle.gate_store.specs.StoreSteps.{MayRecord, Commits, Settles, put_by}
+use Rattle.gate_store.specs.StoreSteps.{MayRecord, Commits, Settles}
 use Rattle.gate_store.specs.declared.store.Store.{Store}
 use Rattle.gate_model.proofs.SoundLaws.{sound-settle}
 use Rattle.gate_store.proofs.Recording.{UnsureComesNext, make_store, reopened_by}
 use Rattle.gate_store.proofs.Reopened.{may_reopen_in, settle-does}
-use Rattle.gate_store.proofs.Told.{told_leaves_weaker, told_leaves_both}
+use Rattle.gate_store.proofs.Told.{told_leaves_weaker}
 use Rattle.gate_store.proofs.Turns.{after_more, in_turn_more, payloads_more}
 
 -- the answer of a call that failed, whatever it would have given

@@ -1,24 +1,22 @@
 -- The steps of a commit, one behind the other.
-use Rattle.std.proofs.Common.{◌≡◌, ◌≤◌, ◌+◌, ◌⊎◌, inl, inr, ⊎_elim, ℕ, Bool, List, [], ◌∷◌, ◌++◌, Option, Some, None, Result, Ok, Err, refl, ap, sym, ◌∙◌, subst, arith}
+use Rattle.std.proofs.Common.{◌≡◌, ◌⊎◌, inl, inr, ⊎_elim, ℕ, Bool, Option, Some, None, Result, Ok, Err, ap, sym, ◌∙◌, subst, arith}
 use Rattle.std.specs.Prelude.{OnOk, OnErr, IfOk, is_ok, if◌then◌else◌}
-use Rattle.std.specs.Bool.{OnTrue}
-use Rattle.kn_base.specs.Count.{Rose, next_count}
+use Rattle.kn_base.specs.Count.{Rose}
 use Rattle.gate_entries.specs.declared.recorded.Recorded.{Recorded}
 use Rattle.gate_model.specs.Fold.{does, recorded}
 use Rattle.gate_model.specs.Gate.{model_of, rules_of}
 use Rattle.gate_model.specs.Lawful.{refusal}
 use Rattle.gate_model.specs.Replies.{reply_to}
 use Rattle.gate_model.specs.State.{State}
-use Rattle.gate_model.specs.declared.gate.Gate.{Gate}
 use Rattle.gate_model.specs.declared.reply.Refusal.TheVariants.{Disk}
 use Rattle.gate_model.specs.declared.reply.Reply.{Reply}
 use Rattle.route_rules.specs.declared.rules.Rules.{Rules}
 use Rattle.store_disk.specs.Disk.{Areas}
-use Rattle.store_disk.specs.Story.{Story, LeavesOnly}
+use Rattle.store_disk.specs.Story.{Story}
 use Rattle.store_disk.specs.declared.disk.DiskFailed.{DiskFailed}
 use Rattle.gate_store.specs.Deeds.{Performs}
-use Rattle.gate_store.specs.Reopening.{MayReopen, MayReopenIn}
-use Rattle.gate_store.specs.Store.{IsStore, disk_in, birth_in, rules_in, state_in, unsure_in}
+use Rattle.gate_store.specs.Reopening.{MayReopenIn}
+use Rattle.gate_store.specs.Store.{IsStore, disk_in, rules_in, state_in, unsure_in}
 use Rattle.gate_store.specs.StoreSteps.{Commits, Settles}
 use Rattle.gate_store.specs.declared.store.Store.{Store}
 use Rattle.gate_store.proofs.Committing.{failed_as, surely}

@@ -1,5 +1,5 @@
 -- What became of the messages of a store.
-use Rattle.std.proofs.Common.{◌≡◌, ◌+◌, ℕ, Bool, List, [], ◌∷◌, map, length, sym, ap, ◌∙◌, subst}
+use Rattle.std.proofs.Common.{◌≡◌, ℕ, Bool, List, [], ◌∷◌, map, length, sym, ap, ◌∙◌, subst}
 use Rattle.gate_entries.specs.declared.recorded.Recorded.{Recorded}
 use Rattle.gate_model.specs.Fates.{AreSound, AddUp, HaveFates}
 use Rattle.gate_model.specs.Fold.{does, recorded}

@@ -1,5 +1,5 @@
 -- Messages that may be handed in may be recorded.
-use Rattle.std.proofs.Common.{◌≡◌, ℕ, ◌<◌, ◌≤◌, ◌^◌, List, length, refl, arith}
+use Rattle.std.proofs.Common.{ℕ, ◌≤◌, ◌^◌, List, refl, arith}
 use Rattle.std.proofs.lemmas.Bool.{lt-ltb}
 use Rattle.gate_entries.specs.declared.accept.Accept.{Accept}
 use Rattle.gate_entries.specs.declared.recorded.Recorded.TheVariants as entry

@@ -1,12 +1,12 @@
 -- What a disk stood for, and what a store that was opened on it holds.
-use Rattle.std.proofs.Common.{◌≡◌, ◌≤◌, ◌+◌, ◌⊎◌, inl, inr, ⊎_elim, ℕ, Bool, true, false, List, [], ◌∷◌, ◌++◌, refl, ap, sym, ◌∙◌, subst, arith}
+use Rattle.std.proofs.Common.{◌≡◌, ◌≤◌, ◌+◌, inl, inr, ℕ, Bool, List, [], ◌∷◌, ◌++◌, refl, ap, sym, ◌∙◌, subst, arith}
 use Rattle.std.specs.Bool.{OnTrue}
 use Rattle.kn_base.specs.Count.{Rose}
 use Rattle.gate_entries.specs.declared.recorded.Recorded.{Recorded}
 use Rattle.gate_model.specs.State.{State}
 use Rattle.route_rules.specs.declared.rules.Rules.{Rules}
 use Rattle.store_disk.specs.Disk.{Areas}
-use Rattle.store_disk.specs.Story.{Story, LeavesOnly, IsImage, reads}
+use Rattle.store_disk.specs.Story.{Story, reads}
 use Rattle.store_disk.specs.declared.area.Area.{Area}
 use Rattle.store_disk.proofs.Leaving.{leaves_weaker}
 use Rattle.store_journal.specs.Area.{Standing, unborn, born, foreign, stands}
@@ -16,7 +16,7 @@ use Rattle.store_journal.specs.declared.fault.OpenFault.TheVariants as journal_i
 use Rattle.store_journal.specs.declared.journal.Journal.{Journal}
 use Rattle.gate_store.specs.Entries.{payloads, StandsFor, StopsAt, IsForeign}
 use Rattle.gate_store.specs.Reopening.{Reopens, ReopensAlike}
-use Rattle.gate_store.specs.Store.{IsStore, IsOpened, IsUnopened, GivesBack, birth_in, disk_in}
+use Rattle.gate_store.specs.Store.{IsStore, IsOpened, IsUnopened, GivesBack, disk_in}
 use Rattle.gate_store.specs.StoreFault.{same_fault}
 use Rattle.gate_store.specs.StoreSteps.{Loads, LoadsNone}
 use Rattle.gate_store.specs.declared.store.Store.{Store}

@@ -1,7 +1,6 @@
 -- A store on which an entry passes, and from which a link takes a message.
-use Rattle.std.proofs.Common.{◌≡◌, ◌<◌, ◌^◌, ℕ, Bool, true, false, List, Option, Some, None, refl, ap, sym, ◌∙◌, subst}
+use Rattle.std.proofs.Common.{◌≡◌, ℕ, Bool, ap, sym, ◌∙◌, subst}
 use Rattle.gate_entries.specs.declared.passing.Passing.{Passing}
-use Rattle.gate_entries.specs.declared.recorded.Recorded.{Recorded}
 use Rattle.gate_model.specs.Fold.{does, passing}
 use Rattle.gate_model.specs.Gate.{IsGate, model_of, rules_of}
 use Rattle.gate_model.specs.Settling.{settle}
@@ -10,7 +9,7 @@ use Rattle.store_disk.specs.Story.{Story}
 use Rattle.store_journal.specs.Journal.{HoldsSame, left}
 use Rattle.store_journal.specs.declared.journal.Journal.{Journal}
 use Rattle.gate_store.specs.Deeds.{Passes}
-use Rattle.gate_store.specs.Store.{IsStore, birth_in, disk_in, rules_in, state_in, unsure_in}
+use Rattle.gate_store.specs.Store.{birth_in, disk_in, rules_in, state_in, unsure_in}
 use Rattle.gate_store.specs.declared.store.Store.{Store}
 use Rattle.gate_store.proofs.Recording.{holds_on}
 

@@ -1,38 +1,32 @@
 -- A store on which an entry is performed, by how far that came.
-use Rattle.std.proofs.Common.{◌≡◌, ◌≤◌, ◌+◌, ◌<◌, ◌⊎◌, inl, inr, ℕ, Bool, true, false, List, [], ◌∷◌, ◌++◌, Option, Some, None, IfSome, Result, Ok, Err, refl, ap, sym, ◌∙◌, subst, arith}
+use Rattle.std.proofs.Common.{◌≡◌, ◌≤◌, ◌+◌, inl, ℕ, Bool, false, List, Option, Some, None, IfSome, Result, Err, refl, ap, sym, ◌∙◌, subst, arith}
 use Rattle.std.specs.Prelude.{option_map}
 use Rattle.std.specs.Bool.{OnTrue}
 use Rattle.std.proofs.lemmas.List.{append-nil}
-use Rattle.kn_base.specs.Count.{Rose}
 use Rattle.gate_entries.specs.declared.recorded.Recorded.{Recorded}
 use Rattle.gate_entries.specs.Entry.{entry_octets}
-use Rattle.gate_model.specs.Fold.{does, recorded}
-use Rattle.gate_model.specs.Gate.{IsGate, KeepsAll, model_of, rules_of}
+use Rattle.gate_model.specs.Gate.{IsGate, KeepsAll}
 use Rattle.gate_model.specs.Lawful.{refusal}
 use Rattle.gate_model.specs.Loading.{ComesNext}
 use Rattle.gate_model.specs.Settling.{settle}
 use Rattle.gate_model.specs.State.{State}
-use Rattle.gate_model.specs.declared.gate.Gate.{Gate}
 use Rattle.gate_model.specs.declared.reply.Refusal.{Refusal}
 use Rattle.gate_model.specs.declared.reply.Refusal.TheVariants.{NoRoute, Full, Disk, Memory}
 use Rattle.gate_model.specs.declared.reply.Reply.{Reply}
 use Rattle.route_rules.specs.declared.rules.Rules.{Rules}
 use Rattle.store_disk.specs.Disk.{Areas}
 use Rattle.store_disk.specs.Story.{Story, IsImage, LeavesOnly}
-use Rattle.store_disk.specs.declared.disk.DiskFailed.{DiskFailed}
 use Rattle.store_journal.specs.Journal.{IsJournal, IsHandedOut, HoldsSame, MayHold, area_of, left}
 use Rattle.store_journal.specs.declared.journal.Journal.{Journal}
 use Rattle.store_journal.proofs.Kept.{holds}
-use Rattle.gate_store.specs.Deeds.{Performs, LeavesUnsure, IsReason, CountsFault, is_by_disk, is_disk, put_behind, state_behind}
+use Rattle.gate_store.specs.Deeds.{Performs, LeavesUnsure, IsReason, CountsFault, is_by_disk, is_disk, state_behind}
 use Rattle.gate_store.specs.Entries.{payloads, start, state_of, AreInTurn}
 use Rattle.gate_store.specs.Reopening.{MayReopen, MayReopenIn}
 use Rattle.gate_store.specs.Store.{IsStore, IsOpen, disk_in, birth_in, rules_in, state_in, unsure_in}
-use Rattle.gate_store.specs.StoreSteps.{Commits, Settles, put_by}
 use Rattle.gate_store.specs.declared.store.Store.{Store}
 use Rattle.gate_store.proofs.Refusals.{reason_named}
-use Rattle.gate_store.proofs.Reopened.{may_reopen, may_reopen_in}
-use Rattle.gate_store.proofs.Told.{told_weaker, told_leaves_none, told_leaves_weaker, told_leaves_both}
-use Rattle.gate_store.proofs.Turns.{after_more, in_turn_more, payloads_more}
+use Rattle.gate_store.proofs.Reopened.{may_reopen}
+use Rattle.gate_store.proofs.Told.{told_weaker, told_leaves_none}
 
 -- an entry that is unsure may come next behind entries, under rules
 abbrev pub UnsureComesNext : Rules → List Recorded → Option Recorded → Type 0

@@ -1,9 +1,9 @@
 -- Entries in their turn.
-use Rattle.std.proofs.Common.{◌≡◌, ℕ, List, [], ◌∷◌, ◌++◌, map, refl, sym, ap, ◌∙◌, subst}
+use Rattle.std.proofs.Common.{◌≡◌, ℕ, List, [], ◌∷◌, ◌++◌, map, sym, ap, ◌∙◌, subst}
 use Rattle.std.proofs.lemmas.List.{append-nil, map-append}
 use Rattle.std.proofs.lemmas.List.Sums.{fold-append}
 use Rattle.gate_entries.specs.declared.recorded.Recorded.{Recorded}
-use Rattle.gate_entries.specs.Entry.{IsEntry, entry_octets}
+use Rattle.gate_entries.specs.Entry.{entry_octets}
 use Rattle.gate_entries.proofs.Alone.{one_entry}
 use Rattle.gate_model.specs.Fold.{after, does, recorded}
 use Rattle.gate_model.specs.Loading.{ComesNext, IsOutside}

@@ -1,13 +1,12 @@
 -- What the store keeps: the entries that were recorded, and the state that they make.
-use Rattle.std.specs.Prelude.{◌≡◌, ◌⊎◌, ℕ, ⊤, List, [], ◌∷◌, ◌++◌, length, map}
+use Rattle.std.specs.Prelude.{◌≡◌, ℕ, ⊤, List, [], ◌∷◌, ◌++◌, length, map}
 use Rattle.gate_entries.specs.declared.recorded.Recorded.{Recorded}
 use Rattle.gate_entries.specs.Entry.{entry_octets}
 use Rattle.gate_model.specs.Fold.{after, does, recorded}
 use Rattle.gate_model.specs.Loading.{ComesNext, IsOutside}
 use Rattle.gate_model.specs.State.{State, empty}
 use Rattle.route_rules.specs.declared.rules.Rules.{Rules}
-use Rattle.store_journal.specs.Area.{Standing, unborn, born, foreign, stands, gate_place}
-use Rattle.store_disk.specs.Disk.{Areas}
+use Rattle.store_journal.specs.Area.{Standing, unborn, born, foreign, gate_place}
 use Rattle.store_disk.specs.declared.area.Area.{Area}
 
 -- the payloads that entries are kept as, in their order

@@ -1,5 +1,5 @@
 -- The steps of a store: loading it, and recording an entry. No public clause but the premise of `perform` cites these.
-use Rattle.std.specs.Prelude.{◌≡◌, ◌⊎◌, ℕ, ◌≤◌, ◌+◌, Bool, IsTrue, List, [], ◌∷◌, ◌++◌, length, Option, Some, None, Result, Ok, Err, OnOk, OnErr, IfOk, is_ok, if◌then◌else◌}
+use Rattle.std.specs.Prelude.{◌≡◌, ◌⊎◌, ℕ, ◌≤◌, ◌+◌, Bool, IsTrue, List, [], ◌∷◌, ◌++◌, length, Some, None, Result, OnOk, OnErr, IfOk, is_ok, if◌then◌else◌}
 use Rattle.std.specs.Bool.{OnTrue}
 use Rattle.kn_base.specs.Count.{Rose}
 use Rattle.gate_entries.specs.declared.recorded.Recorded.{Recorded}
@@ -11,11 +11,10 @@ use Rattle.gate_model.specs.Replies.{reply_to}
 use Rattle.gate_model.specs.declared.reply.Reply.{Reply}
 use Rattle.route_rules.specs.declared.rules.Rules.{Rules}
 use Rattle.store_disk.specs.Story.{Story, LeavesOnly}
-use Rattle.store_disk.specs.declared.area.Area.{Area}
 use Rattle.store_disk.specs.declared.disk.DiskFailed.{DiskFailed}
 use Rattle.store_journal.specs.Journal.{disk_of, area_of, birth_of, left, reserved}
 use Rattle.store_journal.specs.declared.journal.Journal.{Journal}
-use Rattle.gate_store.specs.Entries.{payloads, start, state_of, AreInTurn, StopsAt}
+use Rattle.gate_store.specs.Entries.{payloads, state_of, StopsAt}
 use Rattle.gate_store.specs.Reopening.{MayReopen, MayReopenIn}
 use Rattle.gate_store.specs.Store.{IsStore, disk_in, birth_in, rules_in, state_in, unsure_in}
 use Rattle.gate_store.specs.declared.store.Store.{Store}

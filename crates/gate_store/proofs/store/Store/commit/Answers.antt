@@ -1,5 +1,4 @@
-use Rattle.std.proofs.Common.{◌≡◌, ◌<◌, ℕ, Ok, Err, Option, None, Result, refl, ap, sym, ◌∙◌, subst}
-use Rattle.gate_entries.specs.declared.recorded.Recorded.{Recorded}
+use Rattle.std.proofs.Common.{◌≡◌, ◌<◌, Ok, Err, None, Result, refl, ap, sym, subst}
 use Rattle.gate_model.specs.Gate.{entry_of}
 use Rattle.gate_model.specs.Lawful.{refusal, most_entries}
 use Rattle.gate_model.proofs.RefusalLemmas.{few_where_unrefused}

@@ -1,4 +1,4 @@
-use Rattle.std.proofs.Common.{refl, ◌∙◌}
+use Rattle.std.proofs.Common.{refl}
 use Rattle.gate_store.proofs.Passing.{passed}
 use Rattle.gate_store.proofs.store.Store.pass.Goals as goal
 

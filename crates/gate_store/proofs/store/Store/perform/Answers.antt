@@ -1,4 +1,4 @@
-use Rattle.std.proofs.Common.{◌≡◌, sym, ap, ◌∙◌}
+use Rattle.std.proofs.Common.{sym, ap, ◌∙◌}
 use Rattle.std.specs.Result.{result_err}
 use Rattle.gate_store.proofs.Recording.{refused}
 use Rattle.gate_store.proofs.store.Store.perform.Goals as goal

@@ -1,4 +1,4 @@
-use Rattle.std.proofs.Common.{◌≡◌, Ok, Err, Result, ap, ◌∙◌, subst, sym}
+use Rattle.std.proofs.Common.{Result, subst}
 use Rattle.gate_model.specs.Gate.{entry_of}
 use Rattle.store_disk.specs.declared.disk.DiskFailed.{DiskFailed}
 use Rattle.gate_store.specs.StoreSteps.{Settles}

@@ -1,4 +1,4 @@
-use Rattle.std.proofs.Common.{◌≡◌, ◌^◌, sym, ap, ◌∙◌, subst}
+use Rattle.std.proofs.Common.{◌^◌, sym, ap, ◌∙◌, subst}
 use Rattle.std.specs.Prelude.{IsSome, option_copied}
 use Rattle.std.proofs.lemmas.Bool.{false≢true, lt-ltb}
 use Rattle.gate_model.proofs.TakeLemmas.{next_is_stored, next_may_be_taken}

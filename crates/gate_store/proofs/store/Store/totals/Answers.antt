@@ -1,4 +1,3 @@
-use Rattle.std.proofs.Common.{subst}
 use Rattle.gate_store.proofs.Counting.{counted_by, fates_by}
 use Rattle.gate_store.proofs.store.Store.totals.Goals as goal
 

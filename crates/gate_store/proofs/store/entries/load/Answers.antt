@@ -1,8 +1,7 @@
-use Rattle.std.proofs.Common.{◌≡◌, List, ℕ, None, Err, refl, ap, sym, ◌∙◌, subst}
-use Rattle.gate_model.specs.Loading.{gate_in, loaded, IsOutside, IsTaken}
-use Rattle.gate_model.specs.declared.load_fault.LoadFault.{LoadFault}
-use Rattle.store_journal.specs.Journal.{birth_of, left}
-use Rattle.gate_store.proofs.Loading.{HasLoaded-nil, HasLoaded-more, handed_first, loads_all, moved_on, stops_at}
+use Rattle.std.proofs.Common.{List, ℕ, None, refl, sym, ◌∙◌, subst}
+use Rattle.gate_model.specs.Loading.{loaded, IsTaken}
+use Rattle.store_journal.specs.Journal.{left}
+use Rattle.gate_store.proofs.Loading.{HasLoaded-nil, HasLoaded-more, handed_first, loads_all, moved_on}
 use Rattle.gate_store.specs.declared.store.Store.{Store}
 use Rattle.gate_store.proofs.store.entries.load.Goals as goal
 
