@@ -1,19 +1,19 @@
 -- What a stop leaves in an opening: what one before it left, or a store that is born without payloads.
-use Rattle.std.proofs.Common.{◌≡◌, inl, inr, ⊎_elim, ◌⊎◌, ℕ, ◌+◌, ◌<◌, ◌≤◌, ◌^◌, max, Bool, true, false, cond, eqb, ltb, List, [], ◌∷◌, ◌++◌, length, take, drop, refl, sym, ◌∙◌, ap, subst, arith, append_assoc, Some, None, Option, Result, Ok, Err}
-use Rattle.std.specs.Prelude.{All, IsErr, IsOk, OnOk}
+use Rattle.std.proofs.Common.{◌≡◌, inl, inr, ⊎_elim, ◌⊎◌, ℕ, ◌<◌, ◌≤◌, ◌^◌, Bool, false, cond, eqb, ltb, List, [], ◌∷◌, length, drop, refl, sym, ◌∙◌, ap, subst, arith, Some, None, Result, Ok, Err}
+use Rattle.std.specs.Prelude.{All, IsOk, OnOk}
 use Rattle.std.specs.Bool.{OnTrue}
 use Rattle.std.proofs.lemmas.Bool.{OnTrue_at, OnTrue_from, cases_Bool, le-ltb}
 use Rattle.store_disk.specs.Disk.{Areas, octets_of, same_area, written}
 use Rattle.store_disk.specs.Doubt.{IsFirm}
-use Rattle.store_disk.specs.Story.{Past, Story, tell, wrote, synced, past_of, past_after, at_rest, reads, IsImage, MayLeave, LeavesOnly, Writes, Syncs}
+use Rattle.store_disk.specs.Story.{Past, Story, wrote, past_of, past_after, at_rest, reads, IsImage, MayLeave, LeavesOnly, Writes, Syncs}
 use Rattle.store_disk.specs.declared.area.Area.{Area}
 use Rattle.store_disk.specs.declared.area.Area.TheVariants.{A, B, Pick}
 use Rattle.store_disk.specs.declared.disk.DiskFailed.{DiskFailed}
 use Rattle.store_disk.proofs.Pasts.{octets_of-reads, same_area-refl, past_of-own, length-written, firm_rest, other_write, other_sync, wrote_past, synced_past}
-use Rattle.store_disk.proofs.Leaving.{leaves_first, leaves_both, leaves_now, leaves_same, leaves_sync, leaves_weaker}
-use Rattle.store_journal.specs.Area.{born, foreign, unborn, area_text, picked, stands, standing, IsPayload, IsText}
+use Rattle.store_disk.proofs.Leaving.{leaves_first, leaves_both, leaves_now, leaves_sync, leaves_weaker}
+use Rattle.store_journal.specs.Area.{foreign, unborn, area_text, picked, stands, standing, IsPayload, IsText}
 use Rattle.store_journal.specs.Keeping.{IsSure, IsKeptBy, WritesSynced}
-use Rattle.store_journal.specs.Journal.{IsLike, IsUntouched, OpensAs, OpensOver}
+use Rattle.store_journal.specs.Journal.{IsLike, OpensAs, OpensOver}
 use Rattle.store_journal.specs.Opening.{AreAtRest, AreFresh, AreSmall, IsSmall, IsUnbornOrFresh, most_fresh, most_unpicked}
 use Rattle.store_journal.proofs.Keeping.{commit_leaves, reads_image, stands_text, sure_image, text_sure}
 

@@ -1,5 +1,5 @@
 -- How each step of a journal keeps its payloads.
-use Rattle.std.proofs.Common.{◌≡◌, inl, inr, ⊎_elim, ◌⊎◌, ℕ, ◌+◌, ◌<◌, ◌≤◌, ◌^◌, Bool, true, false, cond, eqb, List, [], ◌∷◌, ◌++◌, length, take, drop, refl, sym, ◌∙◌, ap, subst, arith, append_assoc, length-append, take-append-drop, Some, None, Option, Result, Ok, Err}
+use Rattle.std.proofs.Common.{◌≡◌, inl, inr, ⊎_elim, ◌⊎◌, ℕ, ◌+◌, ◌<◌, ◌^◌, Bool, true, false, eqb, List, [], ◌∷◌, ◌++◌, length, take, drop, refl, sym, ◌∙◌, ap, subst, arith, append_assoc, length-append, take-append-drop, Some, None, Option, Result, Ok, Err}
 use Rattle.std.specs.Prelude.{All, IsErr, IsOk, OnErr, OnOk}
 use Rattle.std.specs.Bool.{OnTrue}
 use Rattle.std.proofs.lemmas.Bool.{cases_Bool, eqb-true}
@@ -8,14 +8,14 @@ use Rattle.std.proofs.lemmas.List.Concat.{flat_map-append}
 use Rattle.std.proofs.lemmas.List.Elements.{All-append, All-from_recursion}
 use Rattle.exact_octets.specs.Spelling.{counted}
 use Rattle.store_disk.specs.Disk.{Areas, octets_of, same_area, written}
-use Rattle.store_disk.specs.Doubt.{IsFirm, IsGate, IsButFor}
-use Rattle.store_disk.specs.Story.{Past, Story, tell, wrote, synced, past_of, at_rest, reads, IsImage, MayLeave, LeavesOnly, Writes, Syncs}
+use Rattle.store_disk.specs.Doubt.{IsFirm, IsButFor}
+use Rattle.store_disk.specs.Story.{Past, Story, wrote, past_of, at_rest, reads, IsImage, MayLeave, LeavesOnly, Writes, Syncs}
 use Rattle.store_disk.specs.declared.area.Area.{Area}
 use Rattle.store_disk.specs.declared.area.Area.TheVariants.{A, B, Pick}
 use Rattle.store_disk.specs.declared.disk.DiskFailed.{DiskFailed}
 use Rattle.store_disk.proofs.Pasts.{octets_of-reads, same_area-refl, past_of-own, firm_rest, firm_image, firm_write, firm_sync, gate_rest, gate_image, gate_write, other_write, other_sync, wrote_past, synced_past}
-use Rattle.store_disk.proofs.Leaving.{leaves_first, leaves_write, leaves_sync, leaves_both, leaves_weaker}
-use Rattle.store_journal.specs.Area.{born, header, unit, units, area_text, gate_place, reading, stands, standing, picked, IsPayload, IsText}
+use Rattle.store_disk.proofs.Leaving.{leaves_first, leaves_write, leaves_sync}
+use Rattle.store_journal.specs.Area.{born, header, unit, units, area_text, gate_place, stands, standing, picked, IsPayload, IsText}
 use Rattle.store_journal.specs.Keeping.{IsSure, IsUnsure, IsKeptIn, IsKeptBy, WritesSynced}
 use Rattle.store_journal.specs.Journal.{MayHold}
 use Rattle.store_journal.proofs.Texts.{length-front, reading_is, never_pick}

@@ -1,19 +1,19 @@
 -- What the calls of a journal keep.
-use Rattle.std.proofs.Common.{◌≡◌, inl, inr, ℕ, ◌+◌, ◌-◌, ◌<◌, ◌≤◌, ◌^◌, Bool, true, false, cond, List, [], ◌∷◌, ◌++◌, length, take, drop, sym, ◌∙◌, ap, subst, arith, refl, length-append, length-take, append_assoc, Some, None, Option, Result, Ok, Err}
-use Rattle.std.specs.Prelude.{All, IsErr, OnErr, OnOk, is_some}
+use Rattle.std.proofs.Common.{◌≡◌, ℕ, ◌+◌, ◌-◌, ◌<◌, ◌≤◌, ◌^◌, Bool, true, false, cond, List, [], ◌∷◌, ◌++◌, length, take, drop, sym, ◌∙◌, ap, subst, arith, refl, length-append, length-take, append_assoc, Some, None, Option, Result, Ok, Err}
+use Rattle.std.specs.Prelude.{All, IsErr, OnOk, is_some}
 use Rattle.std.specs.Bool.{OnTrue}
 use Rattle.std.proofs.lemmas.Bool.{OnTrue_at, OnTrue_from, true≢false}
 use Rattle.std.proofs.lemmas.List.{append-nil}
 use Rattle.exact_octets.specs.Spelling.{counted}
 use Rattle.store_disk.specs.Disk.{Areas, octets_of, IsWithin}
-use Rattle.store_disk.specs.Story.{Story, IsImage, LeavesOnly, past_of, reads}
+use Rattle.store_disk.specs.Story.{Story, IsImage, past_of, reads}
 use Rattle.store_disk.specs.declared.area.Area.{Area}
 use Rattle.store_disk.specs.declared.disk.DiskFailed.{DiskFailed}
-use Rattle.store_disk.proofs.Leaving.{leaves_both, leaves_first, leaves_now, leaves_weaker}
+use Rattle.store_disk.proofs.Leaving.{leaves_both, leaves_first}
 use Rattle.store_disk.proofs.Pasts.{octets_of-reads}
-use Rattle.store_journal.specs.Area.{gate_place, unit, units, IsPayload}
+use Rattle.store_journal.specs.Area.{gate_place, unit, IsPayload}
 use Rattle.store_journal.specs.Keeping.{IsKeptBy, WritesSynced}
-use Rattle.store_journal.specs.Journal.{IsJournal, IsKept, HoldsSame, MayHold, Appends, Repairs, disk_of, area_of, is_unsure, left, reserved}
+use Rattle.store_journal.specs.Journal.{IsJournal, IsKept, MayHold, Appends, Repairs, disk_of, area_of, is_unsure, left, reserved}
 use Rattle.store_journal.specs.declared.journal.Journal.{Journal}
 use Rattle.store_journal.proofs.Keeping.{PutsBody, WritesGate, kept_image, reads_image, puts_body, writes_gate, sizes_more, gate_more}
 

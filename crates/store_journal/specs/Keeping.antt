@@ -1,5 +1,5 @@
 -- How a disk keeps the payloads of a journal, so that each stop leaves them.
-use Rattle.std.specs.Prelude.{◌≡◌, ◌+◌, ◌==◌, ℕ, Bool, false, List, ◌∷◌, ◌++◌, take, Option, Some, None, Result, Ok, OnOk, IsOk}
+use Rattle.std.specs.Prelude.{◌≡◌, ◌+◌, ◌==◌, ℕ, false, List, ◌∷◌, ◌++◌, take, Option, Some, None, Result, OnOk, IsOk}
 use Rattle.exact_octets.specs.Spelling.{counted}
 use Rattle.store_disk.specs.Doubt.{IsFirm, IsGate}
 use Rattle.store_disk.specs.Story.{Past, Story, Syncs, Writes, past_of}

@@ -1,4 +1,4 @@
-use Rattle.std.proofs.Common.{◌≡◌, ◌∙◌, sym, subst, refl}
+use Rattle.std.proofs.Common.{◌∙◌}
 use Rattle.store_journal.proofs.Bearing.{told_same, told_born, told_unborn}
 use Rattle.store_journal.proofs.birth.bear.Goals as goal
 

@@ -7,7 +7,7 @@ use Rattle.store_disk.specs.Story.{reads}
 use Rattle.store_disk.specs.declared.area.Area.TheVariants.{A}
 use Rattle.store_journal.proofs.Units.{closed_alone}
 use Rattle.store_journal.proofs.Texts.{opens_unborn, stored_none}
-use Rattle.store_journal.proofs.Bearing.{told_same, told_then}
+use Rattle.store_journal.proofs.Bearing.{told_same}
 use Rattle.store_journal.proofs.found.bear_found.Goals as goal
 
 pub returns-in_err-extend_from_slice-clause-stops : goal.returns-in_err-extend_from_slice-clause-stops

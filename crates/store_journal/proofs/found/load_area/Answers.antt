@@ -1,8 +1,5 @@
-use Rattle.std.proofs.Common.{List, ℕ, refl, arith, ap, sym, ◌∙◌, ◌≡◌, subst, drop, length}
-use Rattle.std.specs.Bool.{OnTrue}
+use Rattle.std.proofs.Common.{List, ℕ, refl, arith, ap, ◌∙◌, ◌≡◌, subst, drop, length}
 use Rattle.store_journal.specs.Area.{gate_place, payloads_in, IsText}
-use Rattle.store_disk.specs.Disk.{octets_of}
-use Rattle.store_disk.specs.Story.{reads}
 use Rattle.store_journal.proofs.Texts.{place_within}
 use Rattle.store_journal.proofs.Bearing.{kept_read, stood_read}
 use Rattle.store_journal.proofs.found.load_area.Goals as goal

@@ -1,6 +1,6 @@
-use Rattle.std.proofs.Common.{◌≡◌, ℕ, ◌-◌, ◌+◌, List, [], ◌∷◌, ◌++◌, length, length-drop, take, drop, refl, arith, ap, sym, ◌∙◌, subst, Some, None, Ok, Err}
+use Rattle.std.proofs.Common.{◌≡◌, ℕ, ◌-◌, List, [], ◌∷◌, ◌++◌, length, length-drop, take, drop, refl, arith, ap, ◌∙◌, None}
 use Rattle.std.proofs.lemmas.List.{take_rest}
-use Rattle.store_journal.specs.Journal.{IsJournal, Appends, reserved}
+use Rattle.store_journal.specs.Journal.{reserved}
 use Rattle.store_journal.proofs.Kept.{append_unput, append_unopened, append_opened, body_put, gate_put, kept_sure}
 use Rattle.store_journal.proofs.journal.Journal.append.Goals as goal
 

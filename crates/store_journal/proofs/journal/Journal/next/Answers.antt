@@ -1,4 +1,4 @@
-use Rattle.std.proofs.Common.{◌≡◌, ℕ, ◌-◌, ◌+◌, List, ◌∷◌, length, drop, take, arith, ◌∙◌, sym, ap, subst, refl}
+use Rattle.std.proofs.Common.{◌≡◌, ℕ, ◌-◌, List, ◌∷◌, length, drop, take, arith, ◌∙◌, sym, ap, subst, refl}
 use Rattle.store_journal.specs.Area.{payloads_in}
 use Rattle.store_journal.specs.Opening.{IsFirstUnit, IsNoUnit}
 use Rattle.store_journal.proofs.Units.{step, step_far, stop}
