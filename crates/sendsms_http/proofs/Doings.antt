@@ -177,7 +177,7 @@ module _ {S : Type 0} (leads : S → List Deed → S → Type 0) (faults : S →
       → Hands leads faults can_submit settings store start told visit.kept visit.taken b tells later time parts [] visit.phase
       → leads later (record { parts = parts; time = time; outcome = outcome } ∷ []) after
       → (outcome ≡ Err refusal_is.Disk → Rose (faults later) (faults after))
-      → (outcome ≢ Err refusal_is.Disk → faults after ≡ faults later) → faults later ≤ faults after → (outcome ≢ Err refusal_is.Disk → can_submit after)
+      → (outcome ≢ Err refusal_is.Disk → faults after ≡ faults later) → faults later ≤ faults after → can_submit after
       → Decides leads faults can_submit settings store start told visit b tells after outcome
   handed leads_on visit time parts outcome b tells later after h led disk spared kept ready =
       let deed : Deed = record { parts = parts; time = time; outcome = outcome } in record {

@@ -83,10 +83,6 @@ refused_at_end settings now [] visit wish none some more is = absurd (some refl)
 refused_at_end settings now (octet ∷ octets) visit wish none some more is =
     subst (IsAtEnd settings now (octet ∷ octets) visit) (sym is) (owes_refusal settings true now (octet ∷ octets) visit none some more, refl)
 
-pub or_false : (b : Bool) → (b || false) ≡ b
-or_false true = refl
-or_false false = refl
-
 -- a request that is refused
 pub owes_refused : (settings : Settings) (now len : ℕ) (octets : List ℕ) (head : Head) (visit : Visit) (answer : Answer) → IsHead (take len octets) head
     → visit.kept ≡ drop len octets → (answer ≡ OutOfMemory) ⊎ (asked settings head now ≡ Err answer)
@@ -108,7 +104,7 @@ owes_refused settings now len octets head visit answer heard kept refusal =
         | inl want ↦ inr (refl, want)
         | inr is ↦ inl (subst (λ (asks : Result (List Sms) Answer). ComesTo asks now [] answer) (sym is) (refl, refl))
       ];
-      close = ap (λ always. (head.close || head.body) || always) (sym (or_false (closes_always answer)));
+      close = refl;
     } in
     record {
       exchange = e;

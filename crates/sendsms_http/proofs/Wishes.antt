@@ -16,7 +16,7 @@ use Rattle.kn_base.specs.Clock.{Adds}
 use Rattle.kn_base.specs.Course.{Course}
 use Rattle.kn_base.specs.Talk.{SaysAll, SaysFront}
 use Rattle.sms_record.specs.declared.sms.Sms.{Sms}
-use Rattle.sendsms_http.specs.Reply.{answer_of, is_failed}
+use Rattle.sendsms_http.specs.Reply.{answer_of}
 use Rattle.sendsms_http.specs.Request.{asked}
 use Rattle.sendsms_http.specs.Session.{Exchange, text_of, AnswersRequest, IsExchange, IsKept, ComesTo, closes_always, times_in, deeds_in, AreAmong, Serves}
 use Rattle.sendsms_http.specs.SessionSteps.{IsEndOf, Stands, Has, Waits, Answers, Says, Decides, Due, Wished}
@@ -31,18 +31,8 @@ use Rattle.sendsms_http.specs.declared.visit.VisitGiven.TheVariants as given_is
 use Rattle.sendsms_http.specs.declared.visit.VisitWish.{VisitWish}
 use Rattle.sendsms_http.specs.declared.visit.VisitWish.TheVariants.{Listen, Submit, Say, Over}
 use Rattle.sendsms_http.proofs.Exchanges.{times_last, deeds_last}
-use Rattle.sendsms_http.proofs.Looking.{or_false}
 use Rattle.sendsms_http.proofs.SessionLemmas.{stands_said, has_read, has_passed}
 use Rattle.sendsms_http.proofs.Endings.{none_rose, none_fell, serves_silent, serves_closed, serves_cut, serves_failed, serves_quiet}
-
--- where the connection isn't closed, nothing closes it
-not_last : (a b c : Bool) → (a || (b || c)) ≡ false → c ≡ false
-not_last true b c h = cc
-not_last false true c h = cc
-not_last false false c h = h
-
-not_failed : (outcome : Result Reply Refusal) → is_failed outcome ≡ false → outcome ≢ Err refusal_is.Disk
-not_failed outcome h same = let P : Result Reply Refusal → Type 0 = λ x. is_failed x ≡ false in false≢true (sym (subst P same h))
 
 -- the end of a session that came to one that is no fault
 same_end : (end result : HttpEnd) (before now : ℕ) → end ≢ end_is.Fault → IsEndOf end before now result → result ≡ end
@@ -59,7 +49,7 @@ decided front head time parts outcome = record {
   times = time ∷ [];
   deeds = record { parts = parts; time = time; outcome = outcome } ∷ [];
   answer = answer_of outcome;
-  close = (head.close || head.body) || (closes_always (answer_of outcome) || is_failed outcome);
+  close = (head.close || head.body) || closes_always (answer_of outcome);
 }
 
 module _ {S : Type 0} (leads : S → List Deed → S → Type 0) (faults : S → ℕ) (can_submit : S → Type 0) (settings : Settings) (store : S) (start : Course) (told : Option (List ℕ)) where
@@ -92,7 +82,7 @@ module _ {S : Type 0} (leads : S → List Deed → S → Type 0) (faults : S →
         has = subst (λ deeds. Having (times_in (kept ++ e ∷ [])) deeds tells_now later) deeds
             (subst (λ times. Having times (deeds_in kept) tells_now later) (sym (times_last kept e)) read);
         open_yet = open_yet;
-        ready = λ kept_open. ready;
+        ready = ready;
       }
 
   -- the budget is spent
@@ -184,7 +174,7 @@ module _ {S : Type 0} (leads : S → List Deed → S → Type 0) (faults : S →
             stands = subst (λ n. Standing (a.kept ++ e ∷ []) old.kept n false b) (sym same)
                 (subst (λ ended. Standing (a.kept ++ e ∷ []) old.kept old.taken ended b) (a.open_yet refl) stands);
             has = a.has;
-            ready = a.ready refl;
+            ready = a.ready;
           }) adds is most
         where
           kept_open : (e : Exchange) (ended : Bool) → IsExchange settings ended e → e.close ≡ false → IsKept settings e
@@ -219,7 +209,7 @@ module _ {S : Type 0} (leads : S → List Deed → S → Type 0) (faults : S →
         now = d.time;
         time = refl;
         comes_to = inl comes;
-        close = ap (λ failed. (h.head.close || h.head.body) || (closes_always (answer_of outcome) || failed)) (sym (or_false (is_failed outcome)));
+        close = refl;
       } in
       let times : times_in h.kept ++ d.time ∷ [] ≡ times_in (h.kept ++ e ∷ []) = sym (times_last h.kept e) in
       let deeds : deeds_in h.kept ++ e.deeds ≡ deeds_in (h.kept ++ e ∷ []) = sym (deeds_last h.kept e) in
@@ -236,7 +226,7 @@ module _ {S : Type 0} (leads : S → List Deed → S → Type 0) (faults : S →
         has = subst (λ deeds. Having (times_in (h.kept ++ e ∷ [])) deeds tells_now later) deeds
             (subst (λ times. Having times (deeds_in h.kept ++ e.deeds) tells_now later) times has);
         open_yet = λ open_yet. refl;
-        ready = λ open_yet. d.ready (not_failed outcome (not_last _ (closes_always (answer_of outcome)) (is_failed outcome) open_yet));
+        ready = d.ready;
       })
 
   -- what is so once the visit wishes something

@@ -20,9 +20,3 @@ answer_of (Err (NoRoute part)) = answer_is.NotRoutable
 answer_of (Err (Full held limit)) = answer_is.Unavailable
 answer_of (Err Disk) = answer_is.Unavailable
 answer_of (Err Memory) = answer_is.OutOfMemory
-
--- the messages were refused because the disk failed
-abbrev pub is_failed : Result Reply Refusal → Bool
-is_failed (Ok reply) = false
-is_failed (Err Disk) = true
-is_failed (Err refusal) = false

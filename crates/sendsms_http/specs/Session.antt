@@ -1,7 +1,7 @@
 -- What one connection over HTTP comes to: requests are heard one behind the other, and each is answered, up to the first answer behind
 -- which the connection closes.
 use Rattle.std.specs.Prelude.{◌≡◌, ◌≢◌, ◌⊎◌, ℕ, ◌<◌, ◌≤◌, Bool, true, false, ◌||◌, List, [], ◌∷◌, ◌++◌, length, take, All, Option, Some, None, IfSome, Result, Ok, Err, IfOk, ⊤}
-use Rattle.std.specs.List.{flat_map, list_any}
+use Rattle.std.specs.List.{flat_map}
 use Rattle.config_groups.specs.declared.settings.Settings.{Settings}
 use Rattle.gate_model.specs.Acceptor.{Deed, CountsFaults}
 use Rattle.gate_model.specs.Reply.{IsAccepted}
@@ -20,7 +20,7 @@ use Rattle.kn_base.specs.Talk.{said_of, heard_of}
 use Rattle.kn_base.specs.declared.piece.Piece.{Piece}
 use Rattle.kn_base.specs.declared.piece.Piece.TheVariants.{Heard}
 use Rattle.sms_record.specs.declared.sms.Sms.{Sms}
-use Rattle.sendsms_http.specs.Reply.{answer_of, is_failed}
+use Rattle.sendsms_http.specs.Reply.{answer_of}
 use Rattle.sendsms_http.specs.Request.{asked}
 use Rattle.sendsms_http.specs.declared.http_end.HttpEnd.{HttpEnd}
 use Rattle.sendsms_http.specs.declared.http_end.HttpEnd.TheVariants.{End, Fault, Quiet, Budget, Memory}
@@ -58,10 +58,9 @@ closes_always (BadRequest spot_is.Head) = true
 closes_always OutOfMemory = true
 closes_always answer = false
 
--- the connection closes behind the answer to a request: it says so, or a body follows that wasn't read, or by the answer, or because the
--- disk failed
-abbrev pub closes : Head → List Deed → Answer → Bool
-closes head deeds answer = (head.close || head.body) || (closes_always answer || list_any (λ deed. is_failed deed.outcome) deeds)
+-- the connection closes behind the answer to a request: it says so, or a body follows that wasn't read, or by the answer
+abbrev pub closes : Head → Answer → Bool
+closes head answer = (head.close || head.body) || closes_always answer
 
 -- A request was read at one reading of the clock, and what it asks at that decided its answer, but for want of memory.
 pub record AnswersRequest (settings : Settings) (exchange : Exchange) : Type 0 where
@@ -70,7 +69,7 @@ pub record AnswersRequest (settings : Settings) (exchange : Exchange) : Type 0 w
   pub now : ℕ
   pub time : exchange.times ≡ now ∷ []
   pub comes_to : ComesTo (asked settings head now) now exchange.deeds exchange.answer ⊎ IsOutOfMemory exchange.deeds exchange.answer
-  pub close : exchange.close ≡ closes head exchange.deeds exchange.answer
+  pub close : exchange.close ≡ closes head exchange.answer
 
 -- the octets are no request, and nothing more is waited for: no head can come, or as many octets as are looked at were heard; or more
 -- were needed, and the input ended

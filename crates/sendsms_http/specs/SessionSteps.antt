@@ -120,7 +120,7 @@ module _
     pub stands : Stands kept (exchange.octets ++ left) taken ended now
     pub has : Has (times_in (kept ++ exchange ∷ [])) (deeds_in (kept ++ exchange ∷ [])) tells later
     pub open_yet : close ≡ false → ended ≡ false
-    pub ready : close ≡ false → can_submit later
+    pub ready : can_submit later
 
   -- A take came to nothing.
   pub record Stops (Stopped : Course → Course → Type 0) (left : List ℕ) (taken : ℕ) (now : Course) (tells : Option (List ℕ)) (later : S) : Type 0 where
@@ -143,7 +143,7 @@ module _
     pub time : ℕ
     pub parts : List Sms
     pub hands : Hands visit.kept visit.taken now tells later time parts (record { parts = parts; time = time; outcome = outcome } ∷ []) visit.phase
-    pub ready : outcome ≢ Err refusal_is.Disk → can_submit later
+    pub ready : can_submit later
 
   -- what is so when something is given to the visit
   abbrev pub Due : VisitGiven → Visit → Course → Option (List ℕ) → S → Type 0

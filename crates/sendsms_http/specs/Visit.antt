@@ -11,7 +11,7 @@ use Rattle.http_text.specs.Place.{EndsAt}
 use Rattle.http_text.specs.declared.answer.Answer.{Answer}
 use Rattle.http_text.specs.declared.head.Head.{Head}
 use Rattle.sms_record.specs.declared.sms.Sms.{Sms}
-use Rattle.sendsms_http.specs.Reply.{answer_of, is_failed}
+use Rattle.sendsms_http.specs.Reply.{answer_of}
 use Rattle.sendsms_http.specs.Request.{asked}
 use Rattle.sendsms_http.specs.Session.{Exchange, IsExchange, AreAmong, closes_always}
 use Rattle.sendsms_http.specs.declared.http_end.HttpEnd.TheVariants as end_is
@@ -118,7 +118,7 @@ IsAtEnd settings now octets visit wish = ⊥
 
 -- the answer by a store's outcome, and whether the connection closes behind it
 abbrev pub answered : Result Reply Refusal → Bool → VisitWish
-answered outcome close = Say (answer_of outcome) (close || (closes_always (answer_of outcome) || is_failed outcome))
+answered outcome close = Say (answer_of outcome) (close || closes_always (answer_of outcome))
 
 -- what is wished by a store's outcome
 abbrev pub IsAnswered : Phase → Result Reply Refusal → VisitWish → Type 0

@@ -21,13 +21,6 @@ pub fn answer_of(outcome: Result<Reply, Refusal>) -> Answer
     }
 }
 
-// Whether the messages were refused because the disk failed.
-pub(crate) fn is_failed(outcome: Result<Reply, Refusal>) -> bool
-    ensures { result ≡ spec.is_failed outcome }
-{
-    matches!(outcome, Err(Refusal::Disk))
-}
-
 // Whether the connection closes behind the answer, whatever was asked.
 pub(crate) fn closes_always(answer: Answer) -> bool
     ensures { result ≡ session.closes_always answer }

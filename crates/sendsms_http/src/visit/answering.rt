@@ -8,7 +8,7 @@ ghost use Rattle.sendsms_http.specs.VisitSteps as steps;
 
 use super::{Phase, Visit, VisitWish};
 use crate::HttpEnd;
-use crate::reply::{answer_of, closes_always, is_failed};
+use crate::reply::{answer_of, closes};
 use config_groups::Settings;
 use gate_model::{Refusal, Reply};
 use http_text::{Answer, Place, Spot};
@@ -71,9 +71,6 @@ impl Visit {
             _ => true,
         };
         let answer = answer_of(outcome);
-        self.say(
-            answer,
-            close || (closes_always(answer) || is_failed(outcome)),
-        )
+        self.say(answer, closes(close, answer))
     }
 }
