@@ -3,6 +3,7 @@ pub mod Handed
 pub mod Loading
 pub mod Opening
 pub mod Recording
-pub mod Reopened
 pub mod Refusals
+pub mod Reopened
+pub mod Told
 pub mod Turns

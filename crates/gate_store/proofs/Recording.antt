@@ -22,15 +22,15 @@ use Rattle.store_disk.specs.Story.{Story, IsImage, LeavesOnly}
 use Rattle.store_disk.specs.declared.disk.DiskFailed.{DiskFailed}
 use Rattle.store_journal.specs.Journal.{IsJournal, IsHandedOut, HoldsSame, MayHold, disk_of, area_of}
 use Rattle.store_journal.specs.declared.journal.Journal.{Journal}
-use Rattle.gate_store.specs.Deeds.{Performs, LeavesUnsure, IsReason, CountsFault, is_by_disk, put_behind, state_behind}
+use Rattle.gate_store.specs.Deeds.{Performs, LeavesUnsure, IsReason, CountsFault, is_by_disk, is_disk, put_behind, state_behind}
 use Rattle.gate_store.specs.Entries.{payloads, start, state_of, AreInTurn}
 use Rattle.gate_store.specs.Reopening.{MayReopen, MayReopenIn}
-use Rattle.gate_store.specs.Store.{IsStore, disk_in, birth_in, rules_in, state_in, unsure_in}
+use Rattle.gate_store.specs.Store.{IsStore, IsOpen, disk_in, birth_in, rules_in, state_in, unsure_in}
 use Rattle.gate_store.specs.StoreSteps.{Commits, Settles, put_by}
 use Rattle.gate_store.specs.declared.store.Store.{Store}
 use Rattle.gate_store.proofs.Refusals.{reason_named}
 use Rattle.gate_store.proofs.Reopened.{may_reopen, may_reopen_in}
-use Rattle.gate_store.proofs.Told.{told_leaves_weaker, told_leaves_then, told_leaves_none}
+use Rattle.gate_store.proofs.Told.{told_weaker, told_leaves_none, told_leaves_weaker, told_leaves_both}
 use Rattle.gate_store.proofs.Turns.{after_more, in_turn_more, payloads_more}
 
 -- an entry that is unsure may come next behind entries, under rules
@@ -53,7 +53,89 @@ module _ {D : Type 0} (tells : Bool) (story : D → Story) where
     state = settled ∙ is.state ∙ ap (λ (r : Rules). state_of r entries) (sym ruled);
   }
 
+  -- what areas that may hold a store's payloads reopen to
+  pub reopened_by : (store : Store D) (birth : ℕ) (entries : List Recorded) → IsStore tells story store birth entries
+      → (image : Areas) → MayHold birth (area_of store.journal) (payloads entries) (option_map entry_octets (unsure_in store)) image
+      → MayReopen (rules_in store) (state_in store) (unsure_in store) image
+  reopened_by store birth entries is image holds =
+      may_reopen (rules_in store) entries (state_in store) is.in_turn is.state birth (area_of store.journal) image (unsure_in store) is.unsure holds
+
   -- whatever a stop now leaves of a store reopens to what is left of its state, or to that with the unsure entry
   pub stops_now : (store : Store D) (birth : ℕ) (entries : List Recorded) → IsStore tells story store birth entries
       → OnTrue tells ((image : Areas) → IsImage (story (disk_in store)) image → MayReopen (rules_in store) (state_in store) (unsure_in store) image)
-  stops_now store birth entries is = ?
+  stops_now store birth entries is =
+      told_weaker tells _ _ (λ holds image now. reopened_by store birth entries is image (holds image now)) (may_hold_now tells story store.journal birth (payloads entries) _ is.journal)
+
+-- an entry that wasn't done for want of something else than the disk leaves unsure what was
+unsure_kept : (before now : Option Recorded) (kept : Recorded) (why : Refusal) → is_disk why ≡ false → now ≡ before → LeavesUnsure before kept (Err why) now
+unsure_kept before now kept (NoRoute part) other same = same
+unsure_kept before now kept (Full held limit) other same = same
+unsure_kept before now kept Disk other same = absurd cc
+unsure_kept before now kept Memory other same = same
+
+module _ {D : Type 0} (tells : Bool) (story : D → Story) (faults calls : D → ℕ) where
+  -- an entry that was refused before any disk call
+  pub unmoved : (old new : Store D) (kept : Recorded) (why : Refusal) → is_disk why ≡ false → IsReason (rules_in old) (state_in old) kept (Err why)
+      → rules_in new ≡ rules_in old → birth_in new ≡ birth_in old → state_in new ≡ state_in old → unsure_in new ≡ unsure_in old → disk_in new ≡ disk_in old
+      → ((birth : ℕ) (entries : List Recorded) → IsStore tells story old birth entries → IsStore tells story new birth entries)
+      → IsOpen tells story old → Performs tells story faults calls old kept (Err why) new
+  unmoved old new kept why other reason ruled born state unsure disk holds open =
+      let none = told_leaves_none tells (story (disk_in old)) (MayReopenIn (rules_in old) (state_in old) (unsure_in old) kept)
+          (told_weaker tells _ _ (λ now image is. inl (now image is)) (stops_now tells story old open.0 open.1 open.2)) in
+      record {
+        reason = reason;
+        ruled = ruled;
+        born = born;
+        state = state;
+        unsure = unsure_kept (unsure_in old) (unsure_in new) kept why other unsure;
+        holds = λ birth entries is. subst (IsStore tells story new birth) (sym (append-nil entries)) (holds birth entries is);
+        stops = subst (λ (d : D). OnTrue tells (LeavesOnly (story (disk_in old)) (story d) (MayReopenIn (rules_in old) (state_in old) (unsure_in old) kept))) (sym disk) none;
+        counted = subst (λ b. CountsFault b (faults (disk_in old)) (faults (disk_in new))) (sym other) (ap faults disk);
+        bounded = let same : calls (disk_in new) ≡ calls (disk_in old) = ap calls disk in omega arith;
+      }
+
+  -- an entry that the model refuses
+  pub refused : (store : Store D) (kept : Recorded) (why : Refusal) → IsOpen tells story store → refusal (rules_in store) (state_in store) kept ≡ Some why
+      → Performs tells story faults calls store kept (Err why) store
+  refused store kept why open is =
+      let named = reason_named (rules_in store) (state_in store) kept why is in
+      unmoved store store kept why named.1 named.0 refl refl refl refl refl (λ birth entries held. held) open
+
+  -- an entry for which there was no memory, by what the store became
+  pub unremembered : (old new : Store D) (kept : Recorded) → IsOpen tells story old → new ≡ record old { gate = new.gate } → KeepsAll old.gate new.gate
+      → refusal (rules_in old) (state_in old) kept ≡ None → Performs tells story faults calls old kept (Err Memory) new
+  unremembered old new kept open same keeps taken =
+      let journal : new.journal ≡ old.journal = ap (λ (s : Store D). s.journal) same in
+      unmoved old new kept Memory refl taken keeps.rules (ap birth_in same) keeps.holds (ap unsure_in same) (ap disk_in same)
+      (prepared_on old new same keeps) open
+
+  -- a store whose gate took memory holds what it held
+  pub prepared_on : (old new : Store D) → new ≡ record old { gate = new.gate } → KeepsAll old.gate new.gate
+      → (birth : ℕ) (entries : List Recorded) → IsStore tells story old birth entries → IsStore tells story new birth entries
+  prepared_on old new same keeps birth entries is =
+      let journal : new.journal ≡ old.journal = ap (λ (s : Store D). s.journal) same in
+      holds_on tells story old new
+      (subst (λ (j : Journal D). HoldsSame tells story old.journal j) (sym journal) (λ b p u held. held))
+      (subst (λ (j : Journal D). IsHandedOut j) (sym journal) is.handed_out) keeps.rules (ap settle keeps.holds) (ap unsure_in same) (keeps.whole is.whole) birth entries is
+
+  -- an entry that was performed once memory was taken for it
+  pub remembered : (old mid new : Store D) (kept : Recorded) (outcome : Result Reply Refusal) → mid ≡ record old { gate = mid.gate } → KeepsAll old.gate mid.gate
+      → Performs tells story faults calls mid kept outcome new → Performs tells story faults calls old kept outcome new
+  remembered old mid new kept outcome same keeps done =
+      let disk : disk_in mid ≡ disk_in old = ap disk_in same in
+      let unsure : unsure_in mid ≡ unsure_in old = ap unsure_in same in
+      let P : Rules → State → Option Recorded → D → Type 0 = λ r s u d. OnTrue tells (LeavesOnly (story d) (story (disk_in new)) (MayReopenIn r s u kept)) in
+      record {
+        reason = subst (λ (s : State). IsReason (rules_in old) s kept outcome) keeps.holds (subst (λ (r : Rules). IsReason r (state_in mid) kept outcome) keeps.rules done.reason);
+        ruled = done.ruled ∙ keeps.rules;
+        born = done.born ∙ ap birth_in same;
+        state = done.state ∙ ap (λ (s : State). state_behind s kept outcome) keeps.holds;
+        unsure = subst (λ (u : Option Recorded). LeavesUnsure u kept outcome (unsure_in new)) unsure done.unsure;
+        holds = λ birth entries is. done.holds birth entries (prepared_on old mid same keeps birth entries is);
+        stops = subst (λ (d : D). P (rules_in old) (state_in old) (unsure_in old) d) disk
+            (subst (λ (u : Option Recorded). P (rules_in old) (state_in old) u (disk_in mid)) unsure
+            (subst (λ (s : State). P (rules_in old) s (unsure_in mid) (disk_in mid)) keeps.holds
+            (subst (λ (r : Rules). P r (state_in mid) (unsure_in mid) (disk_in mid)) keeps.rules done.stops)));
+        counted = subst (λ (d : D). CountsFault (is_by_disk outcome) (faults d) (faults (disk_in new))) disk done.counted;
+        bounded = subst (λ (d : D). calls (disk_in new) ≤ calls d + 6) disk done.bounded;
+      }

@@ -1,3 +1,4 @@
 pub mod Disk
+pub mod Doubt
 pub mod MemDisk
 pub mod Story
