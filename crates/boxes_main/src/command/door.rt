@@ -38,9 +38,9 @@ fn run<H: House>(alloc: Global, words: &[Octets], house: &mut H) -> Ended<H>
 /// Serves one connection over HTTP on the house's visitor: `door CONF`. At most 1,048,576 octets of it are taken.
 ///
 /// The statuses are 0 where the input was read to its end or to a closing answer, 2 for other words, 3 for a configuration that is
-/// refused or names no store, 4 where the disk holds no store, 5 where a disk call failed in opening or in a commit, 6 where the
-/// visitor failed or was quiet, 7 where as many octets were taken as may be and no end came, 9 for want of memory outside a request
-/// that was answered so.
+/// refused or names no store, 4 where the disk holds no store, 5 where a disk call failed in opening, or in a commit whose entry was unsure
+/// when the store was closed, 6 where the visitor failed or was quiet, 7 where as many octets were taken as may be and no end came, 9 for
+/// want of memory outside a request that was answered so. It is the first that happens, but where an entry is unsure at the close it is 5.
 pub fn door<H: House>(alloc: Global, words: &[Octets], house: &mut H) -> Ended<H>
     ensures status { result.status ≡ status_of result.failure }
     ensures line { Tells result.failure (H.Er.course (H.rooms house.old).errors) (H.Er.course (H.rooms house.new).errors) }
