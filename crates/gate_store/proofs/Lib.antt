@@ -1,4 +1,6 @@
 pub mod Commits
+pub mod Committing
+pub mod Composing
 pub mod Handed
 pub mod Loading
 pub mod Opening

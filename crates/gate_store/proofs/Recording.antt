@@ -20,7 +20,7 @@ use Rattle.route_rules.specs.declared.rules.Rules.{Rules}
 use Rattle.store_disk.specs.Disk.{Areas}
 use Rattle.store_disk.specs.Story.{Story, IsImage, LeavesOnly}
 use Rattle.store_disk.specs.declared.disk.DiskFailed.{DiskFailed}
-use Rattle.store_journal.specs.Journal.{IsJournal, IsHandedOut, HoldsSame, MayHold, disk_of, area_of}
+use Rattle.store_journal.specs.Journal.{IsJournal, IsHandedOut, HoldsSame, MayHold, area_of, left}
 use Rattle.store_journal.specs.declared.journal.Journal.{Journal}
 use Rattle.gate_store.specs.Deeds.{Performs, LeavesUnsure, IsReason, CountsFault, is_by_disk, is_disk, put_behind, state_behind}
 use Rattle.gate_store.specs.Entries.{payloads, start, state_of, AreInTurn}
@@ -38,20 +38,28 @@ abbrev pub UnsureComesNext : Rules → List Recorded → Option Recorded → Typ
 UnsureComesNext rules entries unsure = IfSome unsure (λ kept. ComesNext (state_of rules entries) (entry_octets kept) kept)
 
 module _ {D : Type 0} (tells : Bool) (story : D → Story) where
+  -- a store of these entries, by its parts
+  pub make_store : (store : Store D) (rules : Rules) (birth : ℕ) (entries : List Recorded) (unsure : Option Recorded) → rules_in store ≡ rules → unsure_in store ≡ unsure
+      → IsJournal tells story store.journal birth (payloads entries) (option_map entry_octets unsure) → IsHandedOut store.journal
+      → AreInTurn (start rules) entries → UnsureComesNext rules entries unsure → IsGate store.gate → settle (state_in store) ≡ state_of rules entries
+      → IsStore tells story store birth entries
+  make_store store rules birth entries unsure ruled doubt journal handed in_turn next whole state = record {
+    journal = subst (λ (u : Option Recorded). IsJournal tells story store.journal birth (payloads entries) (option_map entry_octets u)) (sym doubt) journal;
+    handed_out = handed;
+    in_turn = subst (λ (r : Rules). AreInTurn (start r) entries) (sym ruled) in_turn;
+    unsure = subst (λ (r : Rules). UnsureComesNext r entries (unsure_in store)) (sym ruled)
+        (subst (λ (u : Option Recorded). UnsureComesNext rules entries u) (sym doubt) next);
+    whole = whole;
+    state = state ∙ ap (λ (r : Rules). state_of r entries) (sym ruled);
+  }
+
   -- a store whose journal holds what it held, and whose gate holds what it held but for what passes, holds what it held
-  pub holds_on : (old new : Store D) → HoldsSame tells story old.journal new.journal → IsHandedOut new.journal → rules_in new ≡ rules_in old
+  pub holds_on : (old new : Store D) → HoldsSame tells story old.journal new.journal → left new.journal ≡ left old.journal → rules_in new ≡ rules_in old
       → settle (state_in new) ≡ settle (state_in old) → unsure_in new ≡ unsure_in old → IsGate new.gate
       → (birth : ℕ) (entries : List Recorded) → IsStore tells story old birth entries → IsStore tells story new birth entries
-  holds_on old new same handed ruled settled unsure whole birth entries is = record {
-    journal = subst (λ (u : Option Recorded). IsJournal tells story new.journal birth (payloads entries) (option_map entry_octets u)) (sym unsure)
-        (same birth (payloads entries) (option_map entry_octets old.unsure) is.journal);
-    handed_out = handed;
-    in_turn = subst (λ (r : Rules). AreInTurn (start r) entries) (sym ruled) is.in_turn;
-    unsure = subst (λ (r : Rules). UnsureComesNext r entries (unsure_in new)) (sym ruled)
-        (subst (λ (u : Option Recorded). UnsureComesNext (rules_in old) entries u) (sym unsure) is.unsure);
-    whole = whole;
-    state = settled ∙ is.state ∙ ap (λ (r : Rules). state_of r entries) (sym ruled);
-  }
+  holds_on old new same left ruled settled unsure whole birth entries is =
+      make_store new (rules_in old) birth entries (unsure_in old) ruled unsure (same birth (payloads entries) (option_map entry_octets old.unsure) is.journal)
+      (left ∙ is.handed_out) is.in_turn is.unsure whole (settled ∙ is.state)
 
   -- what areas that may hold a store's payloads reopen to
   pub reopened_by : (store : Store D) (birth : ℕ) (entries : List Recorded) → IsStore tells story store birth entries
@@ -101,14 +109,6 @@ module _ {D : Type 0} (tells : Bool) (story : D → Story) (faults calls : D →
       let named = reason_named (rules_in store) (state_in store) kept why is in
       unmoved store store kept why named.1 named.0 refl refl refl refl refl (λ birth entries held. held) open
 
-  -- an entry for which there was no memory, by what the store became
-  pub unremembered : (old new : Store D) (kept : Recorded) → IsOpen tells story old → new ≡ record old { gate = new.gate } → KeepsAll old.gate new.gate
-      → refusal (rules_in old) (state_in old) kept ≡ None → Performs tells story faults calls old kept (Err Memory) new
-  unremembered old new kept open same keeps taken =
-      let journal : new.journal ≡ old.journal = ap (λ (s : Store D). s.journal) same in
-      unmoved old new kept Memory refl taken keeps.rules (ap birth_in same) keeps.holds (ap unsure_in same) (ap disk_in same)
-      (prepared_on old new same keeps) open
-
   -- a store whose gate took memory holds what it held
   pub prepared_on : (old new : Store D) → new ≡ record old { gate = new.gate } → KeepsAll old.gate new.gate
       → (birth : ℕ) (entries : List Recorded) → IsStore tells story old birth entries → IsStore tells story new birth entries
@@ -116,26 +116,32 @@ module _ {D : Type 0} (tells : Bool) (story : D → Story) (faults calls : D →
       let journal : new.journal ≡ old.journal = ap (λ (s : Store D). s.journal) same in
       holds_on tells story old new
       (subst (λ (j : Journal D). HoldsSame tells story old.journal j) (sym journal) (λ b p u held. held))
-      (subst (λ (j : Journal D). IsHandedOut j) (sym journal) is.handed_out) keeps.rules (ap settle keeps.holds) (ap unsure_in same) (keeps.whole is.whole) birth entries is
+      (ap left journal) keeps.rules (ap settle keeps.holds) (ap unsure_in same) (keeps.whole is.whole) birth entries is
 
-  -- an entry that was performed once memory was taken for it
-  pub remembered : (old mid new : Store D) (kept : Recorded) (outcome : Result Reply Refusal) → mid ≡ record old { gate = mid.gate } → KeepsAll old.gate mid.gate
+  -- an entry for which there was no memory, by what the store became
+  pub unremembered : (old new : Store D) (kept : Recorded) → IsOpen tells story old → new ≡ record old { gate = new.gate } → KeepsAll old.gate new.gate
+      → refusal (rules_in old) (state_in old) kept ≡ None → Performs tells story faults calls old kept (Err Memory) new
+  unremembered old new kept open same keeps taken =
+      unmoved old new kept Memory refl taken keeps.rules (ap birth_in same) keeps.holds (ap unsure_in same) (ap disk_in same) (prepared_on old new same keeps) open
+
+  -- an entry that was performed on a store that took memory before, and holds what it held
+  pub performed_on : (old mid new : Store D) (kept : Recorded) (outcome : Result Reply Refusal)
+      → rules_in mid ≡ rules_in old → birth_in mid ≡ birth_in old → state_in mid ≡ state_in old → unsure_in mid ≡ unsure_in old → disk_in mid ≡ disk_in old
+      → ((birth : ℕ) (entries : List Recorded) → IsStore tells story old birth entries → IsStore tells story mid birth entries)
       → Performs tells story faults calls mid kept outcome new → Performs tells story faults calls old kept outcome new
-  remembered old mid new kept outcome same keeps done =
-      let disk : disk_in mid ≡ disk_in old = ap disk_in same in
-      let unsure : unsure_in mid ≡ unsure_in old = ap unsure_in same in
+  performed_on old mid new kept outcome ruled born state unsure disk held done =
       let P : Rules → State → Option Recorded → D → Type 0 = λ r s u d. OnTrue tells (LeavesOnly (story d) (story (disk_in new)) (MayReopenIn r s u kept)) in
       record {
-        reason = subst (λ (s : State). IsReason (rules_in old) s kept outcome) keeps.holds (subst (λ (r : Rules). IsReason r (state_in mid) kept outcome) keeps.rules done.reason);
-        ruled = done.ruled ∙ keeps.rules;
-        born = done.born ∙ ap birth_in same;
-        state = done.state ∙ ap (λ (s : State). state_behind s kept outcome) keeps.holds;
+        reason = subst (λ (s : State). IsReason (rules_in old) s kept outcome) state (subst (λ (r : Rules). IsReason r (state_in mid) kept outcome) ruled done.reason);
+        ruled = done.ruled ∙ ruled;
+        born = done.born ∙ born;
+        state = done.state ∙ ap (λ (s : State). state_behind s kept outcome) state;
         unsure = subst (λ (u : Option Recorded). LeavesUnsure u kept outcome (unsure_in new)) unsure done.unsure;
-        holds = λ birth entries is. done.holds birth entries (prepared_on old mid same keeps birth entries is);
+        holds = λ birth entries is. done.holds birth entries (held birth entries is);
         stops = subst (λ (d : D). P (rules_in old) (state_in old) (unsure_in old) d) disk
             (subst (λ (u : Option Recorded). P (rules_in old) (state_in old) u (disk_in mid)) unsure
-            (subst (λ (s : State). P (rules_in old) s (unsure_in mid) (disk_in mid)) keeps.holds
-            (subst (λ (r : Rules). P r (state_in mid) (unsure_in mid) (disk_in mid)) keeps.rules done.stops)));
+            (subst (λ (s : State). P (rules_in old) s (unsure_in mid) (disk_in mid)) state
+            (subst (λ (r : Rules). P r (state_in mid) (unsure_in mid) (disk_in mid)) ruled done.stops)));
         counted = subst (λ (d : D). CountsFault (is_by_disk outcome) (faults d) (faults (disk_in new))) disk done.counted;
         bounded = subst (λ (d : D). calls (disk_in new) ≤ calls d + 6) disk done.bounded;
       }

@@ -87,6 +87,11 @@ LeavesUnsure before kept (Ok reply) now = now ≡ None
 LeavesUnsure before kept (Err Disk) now = (now ≡ before) ⊎ (now ≡ None) ⊎ (now ≡ Some kept)
 LeavesUnsure before kept (Err refusal) now = now ≡ before
 
+-- what may be unsure behind deeds, by each of them
+abbrev pub MayBeUnsure : Option Recorded → List Deed → Option Recorded → Type 0
+MayBeUnsure before [] now = now ≡ before
+MayBeUnsure before (deed ∷ deeds) now = (between : Option Recorded) × LeavesUnsure before (entry_of deed) deed.outcome between × MayBeUnsure between deeds now
+
 module _ {D : Type 0} (tells : Bool) (story : D → Story) (faults calls : D → ℕ) where
   -- One entry on a store. Where it was done its state is what the entry makes of it and the entry stands last, and else both are as they
   -- were. Whenever it stopped, its areas reopen to the state before, or to that with the entry that was unsure, or to that with this entry.

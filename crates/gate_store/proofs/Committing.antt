@@ -1,0 +1,196 @@
+-- An entry that is put last in the journal of a store: what is unsure is taken back, then it is appended.
+use Rattle.std.proofs.Common.{◌≡◌, ◌≤◌, ◌+◌, ◌<◌, ◌⊎◌, inl, inr, ⊎_elim, ℕ, Bool, true, false, List, [], ◌∷◌, ◌++◌, Option, Some, None, Result, Ok, Err, refl, ap, sym, ◌∙◌, subst, arith}
+use Rattle.std.specs.Prelude.{option_map, OnOk, OnErr, if◌then◌else◌}
+use Rattle.std.specs.Bool.{OnTrue}
+use Rattle.std.proofs.lemmas.List.{append-nil}
+use Rattle.kn_base.specs.Count.{Rose}
+use Rattle.gate_entries.specs.declared.recorded.Recorded.{Recorded}
+use Rattle.gate_entries.specs.Entry.{entry_octets}
+use Rattle.gate_model.specs.Fold.{does, recorded}
+use Rattle.gate_model.specs.Gate.{IsGate, model_of, rules_of}
+use Rattle.gate_model.specs.Lawful.{refusal, most_entries}
+use Rattle.gate_model.specs.Loading.{ComesNext}
+use Rattle.gate_model.specs.Replies.{reply_to}
+use Rattle.gate_model.specs.Settling.{settle}
+use Rattle.gate_model.specs.State.{State}
+use Rattle.gate_model.specs.declared.gate.Gate.{Gate}
+use Rattle.gate_model.specs.declared.reply.Refusal.TheVariants.{Disk}
+use Rattle.gate_model.specs.declared.reply.Reply.{Reply}
+use Rattle.route_rules.specs.declared.rules.Rules.{Rules}
+use Rattle.store_disk.specs.Disk.{Areas}
+use Rattle.store_disk.specs.Story.{Story, LeavesOnly}
+use Rattle.store_disk.specs.declared.disk.DiskFailed.{DiskFailed}
+use Rattle.store_journal.specs.Journal.{IsJournal, IsHandedOut, Appends, Repairs, MayHold, area_of, is_unsure, left, reserved}
+use Rattle.gate_store.specs.Deeds.{Performs}
+use Rattle.gate_store.specs.Entries.{payloads, start, state_of}
+use Rattle.gate_store.specs.Reopening.{ReopensTo, MayReopen, MayReopenIn}
+use Rattle.gate_store.specs.Store.{IsStore, IsOpen, disk_in, birth_in, rules_in, state_in, unsure_in}
+use Rattle.gate_store.specs.StoreSteps.{MayRecord, Commits, Settles, put_by}
+use Rattle.gate_store.specs.declared.store.Store.{Store}
+use Rattle.gate_store.proofs.Recording.{UnsureComesNext, make_store, reopened_by}
+use Rattle.gate_store.proofs.Reopened.{may_reopen_in, settle-does}
+use Rattle.gate_store.proofs.Told.{told_leaves_weaker, told_leaves_both}
+use Rattle.gate_store.proofs.Turns.{after_more, in_turn_more, payloads_more}
+
+-- areas that reopen to what is left of a state may do so whatever is unsure
+pub surely : (rules : Rules) (state : State) (unsure : Option Recorded) (areas : Areas) → ReopensTo rules state areas → MayReopen rules state unsure areas
+surely rules state None areas reopens = reopens
+surely rules state (Some kept) areas reopens = inl reopens
+
+module _ {D : Type 0} (tells : Bool) (story : D → Story) where
+  -- an entry that may be recorded may come next behind those that a store holds
+  pub comes_next : (store : Store D) (birth : ℕ) (entries : List Recorded) (kept : Recorded) → IsStore tells story store birth entries → MayRecord store kept
+      → (state_in store).entries < most_entries → ComesNext (state_of (rules_in store) entries) (entry_octets kept) kept
+  comes_next store birth entries kept is may few =
+      subst (λ (s : State). ComesNext s (entry_octets kept) kept) is.state
+      (record { spelled = refl; served = may.served; sound = sound_settled (state_in store) kept may.sound; few = few })
+
+module _ {D : Type 0} (tells : Bool) (story : D → Story) (faults calls : D → ℕ) (old new : Store D) where
+  -- what was unsure is taken back, or the disk failed
+  module _ (open : IsOpen tells story old) (gate : new.gate ≡ old.gate) (born : birth_in new ≡ birth_in old) (stays : left new.journal ≡ left old.journal)
+      (same_reserved : reserved new.journal ≡ reserved old.journal) (kept : faults (disk_in old) ≤ faults (disk_in new))
+      (bounded : calls (disk_in new) ≤ calls (disk_in old) + 2) where
+
+    store_now : (birth : ℕ) (entries : List Recorded) (unsure : Option Recorded) → IsStore tells story old birth entries → unsure_in new ≡ unsure
+        → IsJournal tells story new.journal birth (payloads entries) (option_map entry_octets unsure) → UnsureComesNext (rules_in old) entries unsure
+        → IsStore tells story new birth entries
+    store_now birth entries unsure is doubt journal next =
+        make_store tells story new (rules_in old) birth entries unsure (ap rules_of gate) doubt journal (stays ∙ is.handed_out) is.in_turn next
+        (subst (λ (g : Gate). IsGate g) (sym gate) is.whole) (ap (λ (g : Gate). settle (model_of g)) gate ∙ is.state)
+
+    -- what a stop on the way leaves
+    stops_repaired : {T : Type 0} (result : Result T DiskFailed)
+        → ((birth : ℕ) (payloads : List (List ℕ)) (unsure : Option (List ℕ)) → IsJournal tells story old.journal birth payloads unsure
+        → Repairs tells story old.journal new.journal result birth payloads unsure)
+        → OnTrue tells (LeavesOnly (story (disk_in old)) (story (disk_in new)) (MayReopen (rules_in old) (state_in old) (unsure_in old)))
+    stops_repaired result repaired =
+        let is = open.2 in
+        told_leaves_weaker tells (story (disk_in old)) (story (disk_in new)) _ _ (λ image holds. reopened_by tells story old open.0 open.1 is image holds)
+        (repaired open.0 (payloads open.1) (option_map entry_octets (unsure_in old)) is.journal).stops
+
+    pub settles_ok : {T : Type 0} (done : T)
+        → ((birth : ℕ) (payloads : List (List ℕ)) (unsure : Option (List ℕ)) → IsJournal tells story old.journal birth payloads unsure
+        → Repairs tells story old.journal new.journal {T = T} (Ok done) birth payloads unsure)
+        → unsure_in new ≡ None → faults (disk_in new) ≡ faults (disk_in old) → Settles tells story faults calls old {T = T} (Ok done) new
+    settles_ok done repaired sure unfailed = record {
+      gate = gate;
+      born = born;
+      reserved = same_reserved;
+      sure = sure;
+      unsure = tt;
+      holds = λ birth entries is. store_now birth entries None is sure (repaired birth (payloads entries) _ is.journal).ok tt;
+      stops = stops_repaired (Ok done) repaired;
+      unfailed = unfailed;
+      failed = tt;
+      kept = kept;
+      bounded = bounded;
+    }
+
+    pub settles_err : {T : Type 0} (failed : DiskFailed)
+        → ((birth : ℕ) (payloads : List (List ℕ)) (unsure : Option (List ℕ)) → IsJournal tells story old.journal birth payloads unsure
+        → Repairs tells story old.journal new.journal {T = T} (Err failed) birth payloads unsure)
+        → unsure_in new ≡ unsure_in old → Rose (faults (disk_in old)) (faults (disk_in new)) → Settles tells story faults calls old {T = T} (Err failed) new
+    settles_err failed repaired same rose = record {
+      gate = gate;
+      born = born;
+      reserved = same_reserved;
+      sure = tt;
+      unsure = same;
+      holds = λ birth entries is. store_now birth entries (unsure_in old) is same (repaired birth (payloads entries) _ is.journal).failed is.unsure;
+      stops = stops_repaired (Err failed) repaired;
+      unfailed = tt;
+      failed = rose;
+      kept = kept;
+      bounded = bounded;
+    }
+
+module _ {D : Type 0} (tells : Bool) (story : D → Story) (faults calls : D → ℕ) (old new : Store D) (entry : Recorded) where
+  module _ (open : IsOpen tells story old) (none : unsure_in old ≡ None) (is_reserved : reserved old.journal ≡ entry_octets entry) (may : MayRecord old entry)
+      (few : (state_in old).entries < most_entries) (ruled : rules_in new ≡ rules_in old) (born : birth_in new ≡ birth_in old)
+      (handed : IsHandedOut new.journal) (whole : IsGate new.gate) (kept : faults (disk_in old) ≤ faults (disk_in new))
+      (bounded : calls (disk_in new) ≤ calls (disk_in old) + 4) where
+
+    -- the journal of the store before, in which nothing was unsure
+    journal_before : (birth : ℕ) (entries : List Recorded) → IsStore tells story old birth entries → IsJournal tells story old.journal birth (payloads entries) None
+    journal_before birth entries is = subst (λ (u : Option Recorded). IsJournal tells story old.journal birth (payloads entries) (option_map entry_octets u)) none is.journal
+
+    stops_appended : {T : Type 0} (result : Result T DiskFailed)
+        → ((birth : ℕ) (payloads : List (List ℕ)) → IsJournal tells story old.journal birth payloads None → Appends tells story old.journal new.journal result birth payloads)
+        → OnTrue tells (LeavesOnly (story (disk_in old)) (story (disk_in new)) (MayReopenIn (rules_in old) (state_in old) (unsure_in old) entry))
+    stops_appended result appended =
+        let birth = open.0 in
+        let entries = open.1 in
+        let is = open.2 in
+        let next = comes_next tells story old birth entries entry is may few in
+        let stops = (appended birth (payloads entries) (journal_before birth entries is)).stops in
+        subst (λ (u : Option Recorded). OnTrue tells (LeavesOnly (story (disk_in old)) (story (disk_in new)) (MayReopenIn (rules_in old) (state_in old) u entry))) (sym none)
+        (told_leaves_weaker tells (story (disk_in old)) (story (disk_in new)) _ _
+        (λ image holds. may_reopen_in (rules_in old) entries (state_in old) is.in_turn is.state birth (area_of old.journal) image entry next
+            (subst (λ octets. MayHold birth (area_of old.journal) (payloads entries) (Some octets) image) is_reserved holds))
+        stops)
+
+    -- it was appended, and done
+    pub commits_ok : {T : Type 0} (done : T) (reply : Reply)
+        → ((birth : ℕ) (payloads : List (List ℕ)) → IsJournal tells story old.journal birth payloads None → Appends tells story old.journal new.journal {T = T} (Ok done) birth payloads)
+        → unsure_in new ≡ None → state_in new ≡ does (state_in old) (recorded entry) → reply ≡ reply_to (rules_in old) (state_in old) entry
+        → faults (disk_in new) ≡ faults (disk_in old) → Commits tells story faults calls 4 old entry (Ok reply) new
+    commits_ok done reply appended sure state replied unfailed = record {
+      reply = replied;
+      ruled = ruled;
+      born = born;
+      state = state;
+      sure = sure;
+      unsure = tt;
+      holds = λ birth entries is.
+          let journal = subst (λ octets. IsJournal tells story new.journal birth (payloads entries ++ octets ∷ []) None) is_reserved
+              (appended birth (payloads entries) (journal_before birth entries is)).ok in
+          make_store tells story new (rules_in old) birth (entries ++ entry ∷ []) None ruled sure
+          (subst (λ ps. IsJournal tells story new.journal birth ps None) (sym (payloads_more entries entry)) journal) handed
+          (in_turn_more (start (rules_in old)) entries entry is.in_turn (comes_next tells story old birth entries entry is may few)) tt whole
+          (ap settle state ∙ settle-does (state_in old) entry ∙ ap (λ s. does s (recorded entry)) is.state ∙ sym (after_more (start (rules_in old)) entries entry));
+      stops = stops_appended (Ok done) appended;
+      unfailed = unfailed;
+      failed = tt;
+      kept = kept;
+      bounded = bounded;
+    }
+
+    -- the disk failed, and the entry is unsure or stands nowhere
+    pub commits_err : {T : Type 0} (failed : DiskFailed) (doubt : Bool)
+        → ((birth : ℕ) (payloads : List (List ℕ)) → IsJournal tells story old.journal birth payloads None → Appends tells story old.journal new.journal {T = T} (Err failed) birth payloads)
+        → is_unsure new.journal ≡ doubt → unsure_in new ≡ (if doubt then Some entry else None) → state_in new ≡ state_in old
+        → Rose (faults (disk_in old)) (faults (disk_in new)) → Commits tells story faults calls 4 old entry (Err failed) new
+    commits_err failed doubt appended is_doubt now state rose = record {
+      reply = tt;
+      ruled = ruled;
+      born = born;
+      state = state;
+      sure = tt;
+      unsure = inr (either doubt now);
+      holds = λ birth entries is.
+          subst (IsStore tells story new birth) (sym (append-nil entries))
+          (make_store tells story new (rules_in old) birth entries (if doubt then Some entry else None) ruled now
+          (in_doubt birth entries doubt
+          (subst (λ b. IsJournal tells story new.journal birth (payloads entries) (if b then Some (reserved old.journal) else None)) is_doubt
+          (appended birth (payloads entries) (journal_before birth entries is)).failed))
+          handed is.in_turn (next_in_doubt doubt entries (comes_next tells story old birth entries entry is may few)) whole (ap settle state ∙ is.state));
+      stops = stops_appended (Err failed) appended;
+      unfailed = tt;
+      failed = rose;
+      kept = kept;
+      bounded = bounded;
+    }
+      where
+        either : (b : Bool) → unsure_in new ≡ (if b then Some entry else None) → (unsure_in new ≡ None) ⊎ (unsure_in new ≡ Some entry)
+        either true is = inr is
+        either false is = inl is
+
+        in_doubt : (birth : ℕ) (entries : List Recorded) (b : Bool) → IsJournal tells story new.journal birth (payloads entries) (if b then Some (reserved old.journal) else None)
+            → IsJournal tells story new.journal birth (payloads entries) (option_map entry_octets (if b then Some entry else None))
+        in_doubt birth entries true is = subst (λ octets. IsJournal tells story new.journal birth (payloads entries) (Some octets)) is_reserved is
+        in_doubt birth entries false is = is
+
+        next_in_doubt : (b : Bool) (entries : List Recorded) → ComesNext (state_of (rules_in old) entries) (entry_octets entry) entry
+            → UnsureComesNext (rules_in old) entries (if b then Some entry else None)
+        next_in_doubt true entries next = next
+        next_in_doubt false entries next = tt

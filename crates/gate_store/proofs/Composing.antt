@@ -1,0 +1,119 @@
+-- The steps of a commit, one behind the other.
+use Rattle.std.proofs.Common.{◌≡◌, ◌≤◌, ◌+◌, ◌⊎◌, inl, inr, ⊎_elim, ℕ, Bool, List, [], ◌∷◌, ◌++◌, Option, Some, None, Result, Ok, Err, refl, ap, sym, ◌∙◌, subst, arith}
+use Rattle.std.specs.Prelude.{OnOk, OnErr, IfOk, is_ok, if◌then◌else◌}
+use Rattle.std.specs.Bool.{OnTrue}
+use Rattle.kn_base.specs.Count.{Rose, next_count}
+use Rattle.gate_entries.specs.declared.recorded.Recorded.{Recorded}
+use Rattle.gate_model.specs.Fold.{does, recorded}
+use Rattle.gate_model.specs.Gate.{model_of, rules_of}
+use Rattle.gate_model.specs.Lawful.{refusal}
+use Rattle.gate_model.specs.Replies.{reply_to}
+use Rattle.gate_model.specs.State.{State}
+use Rattle.gate_model.specs.declared.gate.Gate.{Gate}
+use Rattle.gate_model.specs.declared.reply.Refusal.TheVariants.{Disk}
+use Rattle.gate_model.specs.declared.reply.Reply.{Reply}
+use Rattle.route_rules.specs.declared.rules.Rules.{Rules}
+use Rattle.store_disk.specs.Disk.{Areas}
+use Rattle.store_disk.specs.Story.{Story, LeavesOnly}
+use Rattle.store_disk.specs.declared.disk.DiskFailed.{DiskFailed}
+use Rattle.gate_store.specs.Deeds.{Performs}
+use Rattle.gate_store.specs.Reopening.{MayReopen, MayReopenIn}
+use Rattle.gate_store.specs.Store.{IsStore, disk_in, birth_in, rules_in, state_in, unsure_in}
+use Rattle.gate_store.specs.StoreSteps.{Commits, Settles}
+use Rattle.gate_store.specs.declared.store.Store.{Store}
+use Rattle.gate_store.proofs.Committing.{surely}
+use Rattle.std.proofs.lemmas.List.{append-nil}
+use Rattle.gate_store.proofs.Told.{told_leaves_weaker, told_leaves_both}
+
+module _ {D : Type 0} (tells : Bool) (story : D → Story) (faults calls : D → ℕ) (old mid new : Store D) (entry : Recorded) where
+  -- the disk failed before anything was appended
+  pub commits_not : {T : Type 0} (failed : DiskFailed) → Settles tells story faults calls old {T = T} (Err failed) new
+      → Commits tells story faults calls 6 old entry (Err failed) new
+  commits_not failed settles = record {
+    reply = tt;
+    ruled = ap rules_of settles.gate;
+    born = settles.born;
+    state = ap model_of settles.gate;
+    sure = tt;
+    unsure = inl settles.unsure;
+    holds = λ birth entries is. subst (IsStore tells story new birth) (sym (append-nil entries)) (settles.holds birth entries is);
+    stops = told_leaves_weaker tells (story (disk_in old)) (story (disk_in new)) _ _ (λ image may. inl may) settles.stops;
+    unfailed = tt;
+    failed = settles.failed;
+    kept = settles.kept;
+    bounded = let most = settles.bounded in omega arith;
+  }
+
+  -- what a stop behind a repair leaves, of the state before it
+  stops_behind : rules_in mid ≡ rules_in old → state_in mid ≡ state_in old → unsure_in mid ≡ None → (image : Areas)
+      → MayReopenIn (rules_in mid) (state_in mid) (unsure_in mid) entry image → MayReopenIn (rules_in old) (state_in old) (unsure_in old) entry image
+  stops_behind ruled state sure image may =
+      let there = subst (λ (u : Option Recorded). MayReopenIn (rules_in old) (state_in old) u entry image) sure
+          (subst (λ (s : State). MayReopenIn (rules_in old) s (unsure_in mid) entry image) state
+          (subst (λ (r : Rules). MayReopenIn r (state_in mid) (unsure_in mid) entry image) ruled may)) in
+      ⊎_elim (λ before. inl (surely (rules_in old) (state_in old) (unsure_in old) image before)) (λ with_it. inr with_it) there
+
+  -- a fault behind a repair rose
+  pub rose_behind : (a b c : ℕ) → b ≡ a → Rose b c → Rose a c
+  rose_behind a b c same rose = subst (λ n. Rose n c) same rose
+
+  -- what may be unsure behind a repair
+  unsure_behind : (outcome : Result Reply DiskFailed) → unsure_in mid ≡ None
+      → OnErr outcome ((unsure_in new ≡ unsure_in mid) ⊎ (unsure_in new ≡ None) ⊎ (unsure_in new ≡ Some entry))
+      → OnErr outcome ((unsure_in new ≡ unsure_in old) ⊎ (unsure_in new ≡ None) ⊎ (unsure_in new ≡ Some entry))
+  unsure_behind (Ok reply) sure now = tt
+  unsure_behind (Err failed) sure now = ⊎_elim (λ same. inr (inl (same ∙ sure))) (λ other. inr other) now
+
+  -- what was unsure was taken back, and then the entry was appended, or the disk failed
+  pub commits_behind : {T : Type 0} (done : T) (outcome : Result Reply DiskFailed) → Settles tells story faults calls old {T = T} (Ok done) mid
+      → Commits tells story faults calls 4 mid entry outcome new → Commits tells story faults calls 6 old entry outcome new
+  commits_behind done outcome settles commits =
+      let ruled : rules_in mid ≡ rules_in old = ap rules_of settles.gate in
+      let state : state_in mid ≡ state_in old = ap model_of settles.gate in
+      record {
+        reply = subst (λ (s : State). IfOk outcome (λ reply. reply ≡ reply_to (rules_in old) s entry)) state
+            (subst (λ (r : Rules). IfOk outcome (λ reply. reply ≡ reply_to r (state_in mid) entry)) ruled commits.reply);
+        ruled = commits.ruled ∙ ruled;
+        born = commits.born ∙ settles.born;
+        state = commits.state ∙ ap (λ (s : State). if is_ok outcome then does s (recorded entry) else s) state;
+        sure = commits.sure;
+        unsure = unsure_behind outcome settles.sure commits.unsure;
+        holds = λ birth entries is. commits.holds birth entries (settles.holds birth entries is);
+        stops = told_leaves_both tells (story (disk_in old)) (story (disk_in mid)) (story (disk_in new)) _
+            (told_leaves_weaker tells (story (disk_in old)) (story (disk_in mid)) _ _ (λ image may. inl may) settles.stops)
+            (told_leaves_weaker tells (story (disk_in mid)) (story (disk_in new)) _ _ (stops_behind ruled state settles.sure) commits.stops);
+        unfailed = subst (λ n. OnOk outcome (faults (disk_in new) ≡ n)) settles.unfailed commits.unfailed;
+        failed = subst (λ n. OnErr outcome (Rose n (faults (disk_in new)))) settles.unfailed commits.failed;
+        kept = let first = settles.kept in let then_ = commits.kept in omega arith;
+        bounded = let first = settles.bounded in let then_ = commits.bounded in omega arith;
+      }
+
+  -- what was committed was performed
+  pub performs_ok : (reply : Reply) → refusal (rules_in old) (state_in old) entry ≡ None → Commits tells story faults calls 6 old entry (Ok reply) new
+      → Performs tells story faults calls old entry (Ok reply) new
+  performs_ok reply taken commits = record {
+    reason = (taken, commits.reply);
+    ruled = commits.ruled;
+    born = commits.born;
+    state = commits.state;
+    unsure = commits.sure;
+    holds = commits.holds;
+    stops = commits.stops;
+    counted = commits.unfailed;
+    bounded = commits.bounded;
+  }
+
+  -- the disk failed
+  pub performs_err : (failed : DiskFailed) → refusal (rules_in old) (state_in old) entry ≡ None → Commits tells story faults calls 6 old entry (Err failed) new
+      → Performs tells story faults calls old entry (Err Disk) new
+  performs_err failed taken commits = record {
+    reason = taken;
+    ruled = commits.ruled;
+    born = commits.born;
+    state = commits.state;
+    unsure = commits.unsure;
+    holds = commits.holds;
+    stops = commits.stops;
+    counted = (commits.failed, commits.kept);
+    bounded = commits.bounded;
+  }
