@@ -15,12 +15,12 @@ use Rattle.gate_entries.specs.declared.passing.Passing.{Passing}
 use Rattle.gate_entries.specs.declared.passing.Passing.TheVariants.{Up, Down, Took, Returned, TookJob, ReturnedJob, TookArrival, ReturnedArrival}
 use Rattle.sms_record.specs.declared.kind.Kind.{Kind}
 use Rattle.gate_model.specs.Numbers.{Rise, is_held, value_under, without, with_change, numbered_from}
-use Rattle.gate_model.specs.State.{State, Awaited, IsInOrder}
+use Rattle.gate_model.specs.State.{State, Awaited, IsInOrder, empty}
 use Rattle.gate_model.specs.Fold.{Entry, recorded, passing, keeps, passes, does, after, accepts, answers, hears, unleased, is_last, without_oldest}
-use Rattle.gate_model.specs.Lawful.{IsLawful, suits, may_end, has_expired}
-use Rattle.gate_model.specs.Fates.{AreLawful, Fate, taken, given_up, stored, fate, ended_by, is_end_of, IsCounted, HaveFates}
+use Rattle.gate_model.specs.Lawful.{suits, may_end, has_expired}
+use Rattle.gate_model.specs.Fates.{AreLawful, IsSoundIn, AreSound, Fate, taken, given_up, stored, fate, ended_by, is_end_of, IsCounted, HaveFates}
 use Rattle.gate_model.proofs.NumberLemmas.{by_number, length-without, length-numbered_from}
-use Rattle.gate_model.proofs.OrderLemmas.{IsInOrder-does}
+use Rattle.gate_model.proofs.OrderLemmas.{IsInOrder-does, IsInOrder-empty}
 use Rattle.gate_model.proofs.WholeLemmas.{some_value}
 
 -- ---- pairs
@@ -80,7 +80,7 @@ module _ {T : Type 0} where
       (λ e. absurd (omega arith)) (λ ne. below-numbered_from number (first + 1) values (omega arith))
 
   -- what is held is below the end
-  held_below : (from below number : ℕ) (pairs : List (ℕ × T)) → Rise from below pairs → is_held number pairs ≡ true → number < below
+  pub held_below : (from below number : ℕ) (pairs : List (ℕ × T)) → Rise from below pairs → is_held number pairs ≡ true → number < below
   held_below from below number [] rise held = absurd cc
   held_below from below number (pair ∷ pairs) rise held =
       by_number
@@ -187,11 +187,11 @@ moves-passes message state (ReturnedJob job) = moves-same message state _ refl r
 moves-passes message state (TookArrival arrival) = moves-same message state _ refl refl
 moves-passes message state (ReturnedArrival arrival) = moves-same message state _ refl refl
 
-moves-does : (rules : Rules) (message : ℕ) (state : State) (one : Entry) → IsLawful rules state one → Moves message (is_end_of message one) state (does state one)
-moves-does rules message state (recorded kept) lawful =
-    let m = moves-keeps message state kept lawful.0.1 in
+moves-does : (message : ℕ) (state : State) (one : Entry) → IsSoundIn state one → Moves message (is_end_of message one) state (does state one)
+moves-does message state (recorded kept) sound =
+    let m = moves-keeps message state kept sound.1 in
     record { was = m.was; gone = m.gone; stays = m.stays; absent = m.absent; grows = m.grows; given = m.given }
-moves-does rules message state (passing brief) lawful = moves-passes message state brief
+moves-does message state (passing brief) sound = moves-passes message state brief
 
 -- ---- what entries do to one message
 
@@ -234,66 +234,66 @@ either false = inr refl
 contrary : (b : Bool) → b ≡ true → b ≡ false → ⊥
 contrary b ended lives = let e : true ≡ false = sym ended ∙ lives in cc
 
-module _ (rules : Rules) (message : ℕ) where
+module _ (message : ℕ) where
   -- a message that is gone doesn't come back, and isn't ended again
-  stays_gone : (state : State) (entries : List Entry) → AreLawful rules state entries → message ≤ state.last_message → is_held message state.waiting ≡ false
+  stays_gone : (state : State) (entries : List Entry) → AreSound state entries → message ≤ state.last_message → is_held message state.waiting ≡ false
       → (is_held message (after state entries).waiting ≡ false) × (count_by (is_end_of message) entries ≡ 0)
-  stays_gone state [] lawful low none = (none, refl)
-  stays_gone state (one ∷ entries) lawful low none =
-      let m = moves-does rules message state one lawful.0 in
+  stays_gone state [] sound low none = (none, refl)
+  stays_gone state (one ∷ entries) sound low none =
+      let m = moves-does message state one sound.0 in
       let grows = m.grows in
-      let rest = stays_gone (does state one) entries lawful.1 (omega (arith, grows)) (m.absent low none) in (
+      let rest = stays_gone (does state one) entries sound.1 (omega (arith, grows)) (m.absent low none) in (
         rest.0,
         ⊎_elim (λ ended. absurd (contrary (is_held message state.waiting) (m.was ended) none))
             (λ lives. let c = count-cons message one entries false lives in let z = rest.1 in omega (arith, c, z)) (either (is_end_of message one)),
       )
 
   -- a message that an entry ends is gone behind it
-  gone_behind : (state : State) (one : Entry) (entries : List Entry) → IsInOrder state → AreLawful rules state (one ∷ entries) → is_end_of message one ≡ true
+  gone_behind : (state : State) (one : Entry) (entries : List Entry) → IsInOrder state → AreSound state (one ∷ entries) → is_end_of message one ≡ true
       → (is_held message (after state (one ∷ entries)).waiting ≡ false) × (count_by (is_end_of message) entries ≡ 0)
-  gone_behind state one entries order lawful ended =
-      let m = moves-does rules message state one lawful.0 in
+  gone_behind state one entries order sound ended =
+      let m = moves-does message state one sound.0 in
       let grows = m.grows in
       let low = held_below 1 (state.last_message + 1) message state.waiting order.waiting (m.was ended) in
-      stays_gone (does state one) entries lawful.1 (omega (arith, grows, low)) (m.gone ended)
+      stays_gone (does state one) entries sound.1 (omega (arith, grows, low)) (m.gone ended)
 
-  ends_once : (state : State) (entries : List Entry) → IsInOrder state → AreLawful rules state entries → count_by (is_end_of message) entries ≤ 1
-  ends_once state [] order lawful = omega arith
-  ends_once state (one ∷ entries) order lawful =
-      let rest = ends_once (does state one) entries (IsInOrder-does state one order) lawful.1 in
+  ends_once : (state : State) (entries : List Entry) → IsInOrder state → AreSound state entries → count_by (is_end_of message) entries ≤ 1
+  ends_once state [] order sound = omega arith
+  ends_once state (one ∷ entries) order sound =
+      let rest = ends_once (does state one) entries (IsInOrder-does state one order) sound.1 in
       ⊎_elim
-      (λ ended. let c = count-cons message one entries true ended in let z = (gone_behind state one entries order lawful ended).1 in omega (arith, c, z))
+      (λ ended. let c = count-cons message one entries true ended in let z = (gone_behind state one entries order sound ended).1 in omega (arith, c, z))
       (λ lives. let c = count-cons message one entries false lives in omega (arith, c, rest)) (either (is_end_of message one))
 
   -- one that waits is stored exactly where it still waits
-  stored_held : (state : State) (entries : List Entry) → IsInOrder state → AreLawful rules state entries → is_held message state.waiting ≡ true
+  stored_held : (state : State) (entries : List Entry) → IsInOrder state → AreSound state entries → is_held message state.waiting ≡ true
       → (fate entries message ≡ stored) ↔ (is_held message (after state entries).waiting ≡ true)
-  stored_held state [] order lawful held = (λ f. held, λ h. refl)
-  stored_held state (one ∷ entries) order lawful held =
-      let m = moves-does rules message state one lawful.0 in
+  stored_held state [] order sound held = (λ f. held, λ h. refl)
+  stored_held state (one ∷ entries) order sound held =
+      let m = moves-does message state one sound.0 in
       ⊎_elim
       (λ ended. (
         λ f. absurd (fate-ended message one entries ended f),
-        λ h. absurd (contrary (is_held message (after state (one ∷ entries)).waiting) h (gone_behind state one entries order lawful ended).0),
+        λ h. absurd (contrary (is_held message (after state (one ∷ entries)).waiting) h (gone_behind state one entries order sound ended).0),
       ))
       (λ lives.
-      let rest = stored_held (does state one) entries (IsInOrder-does state one order) lawful.1 (m.stays lives held) in
+      let rest = stored_held (does state one) entries (IsInOrder-does state one order) sound.1 (m.stays lives held) in
       let same = fate-other message one entries lives in (λ f. rest.0 (sym same ∙ f), λ h. same ∙ rest.1 h))
       (either (is_end_of message one))
 
   -- so is one that the entries accept
-  stored_given : (state : State) (entries : List Entry) → IsInOrder state → AreLawful rules state entries → state.last_message < message → message ≤ (after state entries).last_message
+  stored_given : (state : State) (entries : List Entry) → IsInOrder state → AreSound state entries → state.last_message < message → message ≤ (after state entries).last_message
       → (fate entries message ≡ stored) ↔ (is_held message (after state entries).waiting ≡ true)
-  stored_given state [] order lawful low high = absurd (omega arith)
-  stored_given state (one ∷ entries) order lawful low high =
-      let m = moves-does rules message state one lawful.0 in
+  stored_given state [] order sound low high = absurd (omega arith)
+  stored_given state (one ∷ entries) order sound low high =
+      let m = moves-does message state one sound.0 in
       let ordered = IsInOrder-does state one order in
       let lives : is_end_of message one ≡ false =
       ⊎_elim (λ ended. absurd (let below = held_below 1 (state.last_message + 1) message state.waiting order.waiting (m.was ended) in omega (arith, below))) (λ lives. lives) (either (is_end_of message one)) in
       let same = fate-other message one entries lives in
       let rest : (fate entries message ≡ stored) ↔ (is_held message (after (does state one) entries).waiting ≡ true) =
-      ⊎_elim (λ given. stored_held (does state one) entries ordered lawful.1 (m.given low given))
-      (λ later. stored_given (does state one) entries ordered lawful.1 later high) (le_or_lt message (does state one).last_message) in
+      ⊎_elim (λ given. stored_held (does state one) entries ordered sound.1 (m.given low given))
+      (λ later. stored_given (does state one) entries ordered sound.1 later high) (le_or_lt message (does state one).last_message) in
       (λ f. rest.0 (sym same ∙ f), λ h. same ∙ rest.1 h)
     where
       le_or_lt : (a b : ℕ) → (a ≤ b) ⊎ (b < a)
@@ -344,20 +344,34 @@ module _ (state : State) (counted : IsCounted state) where
   counted-passes (TookArrival arrival) = counted
   counted-passes (ReturnedArrival arrival) = counted
 
-pub counted-does : (rules : Rules) (state : State) (one : Entry) → IsInOrder state → IsLawful rules state one → IsCounted state → IsCounted (does state one)
-counted-does rules state (recorded kept) order lawful counted = counted-keeps state counted kept order lawful.0.1
-counted-does rules state (passing brief) order lawful counted = counted-passes state counted brief
+pub counted-does : (state : State) (one : Entry) → IsInOrder state → IsSoundIn state one → IsCounted state → IsCounted (does state one)
+counted-does state (recorded kept) order sound counted = counted-keeps state counted kept order sound.1
+counted-does state (passing brief) order sound counted = counted-passes state counted brief
 
-pub counted-after : (rules : Rules) (state : State) (entries : List Entry) → IsInOrder state → AreLawful rules state entries → IsCounted state → IsCounted (after state entries)
-counted-after rules state [] order lawful counted = counted
-counted-after rules state (one ∷ entries) order lawful counted =
-    counted-after rules (does state one) entries (IsInOrder-does state one order) lawful.1 (counted-does rules state one order lawful.0 counted)
+pub counted-after : (state : State) (entries : List Entry) → IsInOrder state → AreSound state entries → IsCounted state → IsCounted (after state entries)
+counted-after state [] order sound counted = counted
+counted-after state (one ∷ entries) order sound counted =
+    counted-after (does state one) entries (IsInOrder-does state one order) sound.1 (counted-does state one order sound.0 counted)
 
--- the law of fates
-pub have_fates : (rules : Rules) (state : State) (entries : List Entry) → IsInOrder state → IsCounted state → AreLawful rules state entries → HaveFates state entries
-have_fates rules state entries order counted lawful = record {
-  once = λ message. ends_once rules message state entries order lawful;
+-- the law of fates, of sound entries
+pub sound_have_fates : (state : State) (entries : List Entry) → IsInOrder state → IsCounted state → AreSound state entries → HaveFates state entries
+sound_have_fates state entries order counted sound = record {
+  once = λ message. ends_once message state entries order sound;
   stored = λ message known.
-      ⊎_elim (λ held. stored_held rules message state entries order lawful held) (λ given. stored_given rules message state entries order lawful given.0 given.1) known;
-  counted = counted-after rules state entries order lawful counted;
+      ⊎_elim (λ held. stored_held message state entries order sound held) (λ given. stored_given message state entries order sound given.0 given.1) known;
+  counted = counted-after state entries order sound counted;
 }
+
+-- lawful entries are sound
+pub are_sound_where_lawful : (rules : Rules) (state : State) (entries : List Entry) → AreLawful rules state entries → AreSound state entries
+are_sound_where_lawful rules state [] lawful = tt
+are_sound_where_lawful rules state (recorded kept ∷ entries) lawful = (lawful.0.0, are_sound_where_lawful rules (does state (recorded kept)) entries lawful.1)
+are_sound_where_lawful rules state (passing brief ∷ entries) lawful = (tt, are_sound_where_lawful rules (does state (passing brief)) entries lawful.1)
+
+-- so lawful entries have fates
+pub have_fates : (rules : Rules) (state : State) (entries : List Entry) → IsInOrder state → IsCounted state → AreLawful rules state entries → HaveFates state entries
+have_fates rules state entries order counted lawful = sound_have_fates state entries order counted (are_sound_where_lawful rules state entries lawful)
+
+-- and so have those since a store's birth
+pub fates_since_birth : (links : ℕ) (entries : List Entry) → AreSound (empty links) entries → HaveFates (empty links) entries
+fates_since_birth links entries sound = sound_have_fates (empty links) entries (IsInOrder-empty links) refl sound

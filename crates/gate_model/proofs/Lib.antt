@@ -7,5 +7,6 @@ pub mod OrderLemmas
 pub mod PutLemmas
 pub mod RefusalLemmas
 pub mod SettlingLaws
+pub mod SoundLaws
 pub mod TakeLemmas
 pub mod WholeLemmas

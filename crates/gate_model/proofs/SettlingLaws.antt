@@ -1,7 +1,7 @@
 -- The law of settling: leases, returns and links that are up are forgotten, and nothing that is kept hangs on them.
 use Rattle.std.proofs.Common.{◌≡◌, refl, sym, ap, ◌∙◌, ℕ, ◌+◌, zero, suc, Bool, true, false, cond, List, [], ◌∷◌, ◌++◌, map, Option, Some, None}
-use Rattle.std.proofs.lemmas.List.{map-append}
-use Rattle.std.specs.Prelude.{fold, slice_set}
+use Rattle.std.proofs.lemmas.List.{map-append, length-map}
+use Rattle.std.specs.Prelude.{fold, replicate, slice_set}
 use Rattle.sms_record.specs.declared.kind.Kind.{Kind}
 use Rattle.sms_record.specs.declared.sms.Sms.{Sms}
 use Rattle.gate_entries.specs.declared.recorded.Recorded.{Recorded}
@@ -9,7 +9,7 @@ use Rattle.gate_entries.specs.declared.recorded.Recorded.TheVariants as entry
 use Rattle.gate_entries.specs.declared.passing.Passing.{Passing}
 use Rattle.gate_entries.specs.declared.passing.Passing.TheVariants.{Up, Down, Took, Returned, TookJob, ReturnedJob, TookArrival, ReturnedArrival}
 use Rattle.gate_model.specs.Numbers.{without, with_changes, numbered_from}
-use Rattle.gate_model.specs.State.{State, Awaited}
+use Rattle.gate_model.specs.State.{State, Awaited, empty, totals_of}
 use Rattle.gate_model.specs.Fold.{Entry, recorded, passing, keeps, passes, does, after, counts_entry, accepts, answers, hears, unleased, is_last, without_oldest}
 use Rattle.gate_model.specs.Settling.{settle, free_waiting, free_arrival, free_job, kept, SettlesAlike}
 use Rattle.gate_model.proofs.NumberLemmas.{with_changes-without, with_changes-with_change, with_changes-numbered_from}
@@ -91,3 +91,49 @@ kept-kept (passing one ∷ entries) = kept-kept entries
 pub settles_alike : (state : State) (entries : List Entry) → SettlesAlike state entries
 settles_alike state entries =
     settle-after state entries ∙ sym (settle-after state (kept entries) ∙ ap (after (settle state)) (kept-kept entries))
+
+-- a store keeps all of the entries that are recorded
+pub kept-recorded : (entries : List Recorded) → kept (map recorded entries) ≡ map recorded entries
+kept-recorded [] = refl
+kept-recorded (one ∷ entries) = ap (λ es. recorded one ∷ es) (kept-recorded entries)
+
+-- so what is left of a state behind recorded entries is what they make of what is left of it
+pub settled_fold : (state : State) (entries : List Recorded) → settle (after state (map recorded entries)) ≡ after (settle state) (map recorded entries)
+settled_fold state entries = settle-after state (map recorded entries) ∙ ap (after (settle state)) (kept-recorded entries)
+
+-- what is left stays
+settled_values : {T : Type 0} (every : T → T) (pairs : List (ℕ × T)) → ((value : T) → every (every value) ≡ every value) → with_changes every (with_changes every pairs) ≡ with_changes every pairs
+settled_values every [] same = refl
+settled_values every (pair ∷ pairs) same = rw (same pair.1, settled_values every pairs same) refl
+
+still_down : (up : List Bool) → map (λ u. false) (map (λ u. false) up) ≡ map (λ u. false) up
+still_down [] = refl
+still_down (u ∷ up) = ap (λ ups. false ∷ ups) (still_down up)
+
+pub settled_twice : (state : State) → settle (settle state) ≡ settle state
+settled_twice state =
+    let waiting = settled_values free_waiting state.waiting (λ w. refl) in
+    let arrivals = settled_values free_arrival state.arrivals (λ a. refl) in
+    let jobs = settled_values free_job state.jobs (λ j. refl) in
+    let up = still_down state.up in
+    (λ i. record state { waiting = waiting i; arrivals = arrivals i; jobs = jobs i; up = up i })
+
+none_up : (links : ℕ) → map (λ u. false) (replicate links false) ≡ replicate links false
+none_up zero = refl
+none_up (suc links) = ap (λ ups. false ∷ ups) (none_up links)
+
+-- nothing is taken in a store in which nothing has happened
+pub settled_empty : (links : ℕ) → settle (empty links) ≡ empty links
+settled_empty links = ap (λ ups. record (empty links) { up = ups }) (none_up links)
+
+-- what a store is opened with, of the entries that it keeps, is settled
+pub settled_since_birth : (links : ℕ) (entries : List Recorded) → settle (after (empty links) (map recorded entries)) ≡ after (empty links) (map recorded entries)
+settled_since_birth links entries = settled_fold (empty links) entries ∙ ap (λ s. after s (map recorded entries)) (settled_empty links)
+
+-- the counts stay, and which messages wait
+pub totals-settle : (state : State) → totals_of (settle state) ≡ totals_of state
+totals-settle state =
+    let waiting = length-map state.waiting (λ pair. (pair.0, free_waiting pair.1)) in
+    let arrivals = length-map state.arrivals (λ pair. (pair.0, free_arrival pair.1)) in
+    let jobs = length-map state.jobs (λ pair. (pair.0, free_job pair.1)) in
+    (λ i. record (totals_of state) { waiting = waiting i; arrivals = arrivals i; jobs = jobs i })

@@ -1,16 +1,25 @@
 -- What comes next may be taken.
-use Rattle.std.proofs.Common.{◌≡◌, ◌≢◌, refl, sym, ap, ◌∙◌, subst, ℕ, ◌+◌, Bool, true, false, cond, List, [], ◌∷◌, Option, Some, None, arith, leb-true, eqb-true, eq-eqb, ne_eqb}
-use Rattle.std.specs.Prelude.{find, option_map, IsSomeAnd, is_none, is_some}
-use Rattle.std.specs.Option.{option_and_then}
+use Rattle.std.proofs.Common.{◌≡◌, ◌≢◌, refl, sym, ap, ◌∙◌, subst, ℕ, ◌+◌, ◌<◌, ◌^◌, zero, suc, Bool, true, false, cond, List, [], ◌∷◌, All, Option, Some, None, arith, leb-true, ltb-true, eqb-true, eq-eqb, ne_eqb}
+use Rattle.std.specs.Prelude.{◌&&◌, find, option_map, IsSome, IsSomeAnd, is_none, is_some, slice_get}
+use Rattle.std.specs.Option.{option_and_then, option_map_or}
 use Rattle.std.proofs.lemmas.Bool.{and_parts}
+use Rattle.std.proofs.lemmas.List.Elements.{All-head, All-tail}
+use Rattle.route_rules.specs.declared.link_rule.LinkRule.{LinkRule}
 use Rattle.route_rules.specs.declared.rules.Rules.{Rules}
+use Rattle.gate_entries.specs.declared.cause.Cause.TheVariants.{Expired}
+use Rattle.gate_entries.specs.declared.recorded.Recorded.{Recorded}
+use Rattle.gate_entries.specs.declared.recorded.Recorded.TheVariants as entry
+use Rattle.gate_entries.specs.Entry.{IsEntry, IsText}
+use Rattle.gate_entries.proofs.Sizes.{entry_bound}
 use Rattle.gate_entries.specs.declared.passing.Passing.TheVariants.{Took, Returned}
 use Rattle.gate_model.specs.declared.waiting.Waiting.{Waiting}
-use Rattle.gate_model.specs.Gate.{is_leased}
-use Rattle.gate_model.specs.Lawful.{MayPass, MayTake, is_time}
-use Rattle.gate_model.specs.Numbers.{Rise, value_under}
+use Rattle.gate_model.specs.Fold.{recorded, sms_of}
+use Rattle.gate_model.specs.Gate.{IsWhole, HaveIds, id_of, is_leased}
+use Rattle.gate_model.specs.Lawful.{IsLawful, MayPass, MayTake, is_expired, is_time}
+use Rattle.gate_model.specs.Numbers.{Rise, is_held, value_under}
 use Rattle.gate_model.specs.Routing.{next, may_take, link_for}
 use Rattle.gate_model.specs.State.{State, IsInOrder, is_link}
+use Rattle.gate_model.proofs.FatesLaws.{held_below}
 use Rattle.gate_model.proofs.NextLemmas.{first_pair}
 use Rattle.gate_model.proofs.NumberLemmas.{value_under-before}
 
@@ -58,6 +67,44 @@ next_may_be_taken rules state link now message order time is =
       some_and (value_under message state.waiting) found.value (MayTake rules state link now) found.there
           (none_is found.value.lease parts.0, leb-true _ now more.0, link_is link (link_for rules state found.value.sms) more.1),
       time,
+    )
+
+-- it is stored
+pub next_is_stored : (rules : Rules) (state : State) (link now message : ℕ) → IsInOrder state → next rules state link now ≡ Some message → IsSome (sms_of message state)
+next_is_stored rules state link now message order is =
+    let found = first_found (may_take rules state link now) 1 (state.last_message + 1) message state.waiting order.waiting is in
+    subst (λ w. IsSome (option_map (λ waiting. waiting.sms) w)) (sym found.there) refl
+
+-- the SMSC id of a link is a text, also where there is no link
+id_is_text : (link : ℕ) (rules : List LinkRule) → All (λ rule. IsText rule.id) rules → IsText (option_map_or (λ rule. rule.id) (slice_get rules link) [])
+id_is_text link [] ids = omega arith
+id_is_text zero (rule ∷ rules) ids = All-head (λ rule. IsText rule.id) rule rules ids
+id_is_text (suc link) (rule ∷ rules) ids = id_is_text link rules (All-tail (λ rule. IsText rule.id) rule rules ids)
+
+-- the entry by which a message is given up that a link would take next, and that is no longer worth sending
+abbrev pub expiry : Rules → (link now message : ℕ) → Recorded
+expiry rules link now message = entry.Rejected (record { message = message; smsc = id_of link rules; cause = Expired; time = now })
+
+-- such a message may be given up
+pub expired_may_end : (rules : Rules) (flight : List ℕ) (state : State) (link now message : ℕ) → IsWhole rules flight state → HaveIds rules → is_time now ≡ true
+    → next rules state link now ≡ Some message → is_expired message now state ≡ true → IsLawful rules state (recorded (expiry rules link now message))
+expired_may_end rules flight state link now message whole ids time is expired =
+    let found = first_found (may_take rules state link now) 1 (state.last_message + 1) message state.waiting whole.order.waiting is in
+    let held : is_held message state.waiting ≡ true = ap is_some found.there in
+    let below = held_below 1 (state.last_message + 1) message state.waiting whole.order.waiting held in
+    let last = whole.bounded.last_message in
+    let few = whole.bounded.entries in
+    let soon : now < 2 ^ 37 = ltb-true now (2 ^ 37) time in
+    let is_entry : IsEntry (expiry rules link now message) = record {
+      message = omega (arith, below, last, few);
+      smsc = id_is_text link rules.links ids;
+      cause = tt;
+      time = omega (arith, soon);
+    } in
+    let size = entry_bound (expiry rules link now message) is_entry in (
+      (is_entry, ap (λ b. b && is_time now) expired ∙ time),
+      some_and (value_under message state.waiting) found.value (λ w. w.lease ≡ None) found.there (none_is found.value.lease (and_parts _ _ found.passes).0),
+      omega (arith, size),
     )
 
 -- a message that a link has taken may be given back

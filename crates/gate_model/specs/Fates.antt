@@ -1,11 +1,12 @@
 -- What becomes of messages.
-use Rattle.std.specs.Prelude.{◌≡◌, ◌↔◌, ◌⊎◌, ℕ, ◌+◌, ◌<◌, ◌≤◌, ◌==◌, Bool, false, List, [], ◌∷◌, length, count_by, ⊤, if◌then◌else◌}
+use Rattle.std.specs.Prelude.{◌≡◌, ◌↔◌, ◌⊎◌, ℕ, ◌+◌, ◌<◌, ◌≤◌, ◌==◌, Bool, false, List, [], ◌∷◌, count_by, ⊤, if◌then◌else◌}
 use Rattle.route_rules.specs.declared.rules.Rules.{Rules}
 use Rattle.gate_entries.specs.declared.cause.Cause.{Cause}
 use Rattle.gate_entries.specs.declared.recorded.Recorded.{Recorded}
 use Rattle.gate_entries.specs.declared.recorded.Recorded.TheVariants as entry
-use Rattle.gate_model.specs.Lawful.{IsLawful}
-use Rattle.gate_model.specs.State.{State}
+use Rattle.gate_model.specs.Lawful.{IsLawful, IsSound}
+use Rattle.gate_model.specs.State.{State, totals_of}
+use Rattle.gate_model.specs.declared.totals.Totals.{Totals}
 use Rattle.gate_model.specs.Fold.{Entry, recorded, passing, does, after}
 use Rattle.gate_model.specs.Numbers.{Has}
 
@@ -19,6 +20,16 @@ pub data Fate : Type 0 where
 abbrev pub AreLawful : Rules → State → List Entry → Type 0
 AreLawful rules state [] = ⊤
 AreLawful rules state (entry ∷ entries) = IsLawful rules state entry × AreLawful rules (does state entry) entries
+
+-- an entry that a store keeps is sound; of one that passes nothing is asked
+abbrev pub IsSoundIn : State → Entry → Type 0
+IsSoundIn state (recorded kept) = IsSound state kept
+IsSoundIn state (passing brief) = ⊤
+
+-- the entries are sound, each in the state that those before it left
+abbrev pub AreSound : State → List Entry → Type 0
+AreSound state [] = ⊤
+AreSound state (entry ∷ entries) = IsSoundIn state entry × AreSound (does state entry) entries
 
 -- what becomes of a message by an entry that ends one, and else
 abbrev pub ended_by : (message : ℕ) → Recorded → Fate → Fate
@@ -50,8 +61,11 @@ is_end_of message (recorded (entry.CallDropped dropped)) = false
 is_end_of message (passing brief) = false
 
 -- each message that was accepted was taken, given up, or waits
+abbrev pub AddUp : Totals → Type 0
+AddUp totals = totals.accepted ≡ totals.acked + totals.rejected + totals.waiting
+
 abbrev pub IsCounted : State → Type 0
-IsCounted state = state.accepted ≡ state.acked + state.rejected + length state.waiting
+IsCounted state = AddUp (totals_of state)
 
 -- a message waits before the entries, or they accept it
 abbrev pub IsKnown : State → List Entry → (message : ℕ) → Type 0

@@ -1,11 +1,12 @@
 -- A gate: the state that it holds, and what keeps it whole.
-use Rattle.std.specs.Prelude.{◌≡◌, ℕ, ◌*◌, ◌<◌, ◌≤◌, ◌^◌, List, [], length, Option, option_map, ⊤}
+use Rattle.std.specs.Prelude.{◌≡◌, ℕ, ◌*◌, ◌<◌, ◌≤◌, ◌^◌, List, [], length, slice_get, All, Option, option_map, ⊤}
 use Rattle.std.specs.Option.{option_and_then, option_map_or}
 use Rattle.std.specs.Prelude.{Bool, is_some}
 use Rattle.sms_record.specs.declared.sms.Sms.{Sms}
 use Rattle.route_rules.specs.declared.rules.Rules.{Rules}
 use Rattle.gate_entries.specs.declared.recorded.Recorded.{Recorded}
 use Rattle.gate_entries.specs.declared.recorded.Recorded.TheVariants as entry
+use Rattle.gate_entries.specs.Entry.{IsText}
 use Rattle.gate_entries.specs.declared.limits.TheConstants.{MOST_MESSAGES}
 use Rattle.gate_model.specs.declared.gate.Gate.{Gate}
 use Rattle.gate_model.specs.declared.ready.Ready.{Ready}
@@ -108,6 +109,14 @@ url_of job state = option_map (λ j. j.url) (value_under job state.jobs)
 -- some link has taken a message
 abbrev pub is_leased : (message : ℕ) → State → Bool
 is_leased message state = is_some (lease_under message state.waiting)
+
+-- the SMSC id of a link, empty where there is none
+abbrev pub id_of : (link : ℕ) → Rules → List ℕ
+id_of link rules = option_map_or (λ rule. rule.id) (slice_get rules.links link) []
+
+-- an entry can name each link by its SMSC id
+abbrev pub HaveIds : Rules → Type 0
+HaveIds rules = All (λ rule. IsText rule.id) rules.links
 
 -- how often a job was given back; one that isn't held never was
 abbrev pub returns_of : (job : ℕ) → State → ℕ

@@ -46,6 +46,10 @@ abbrev pub may_end : State → (message time : ℕ) → Cause → Bool
 may_end state message time (Centre code) = is_held message state.waiting
 may_end state message time Expired = option_map_or (has_expired time) (value_under message state.waiting) false
 
+-- a message waits that is no longer worth sending
+abbrev pub is_expired : (message time : ℕ) → State → Bool
+is_expired message time state = may_end state message time Expired
+
 -- an entry suits a state: it names what the state holds, at a reading of the clock
 abbrev pub suits : State → Recorded → Bool
 suits state (entry.Accept accept) = is_time accept.time

@@ -2,7 +2,7 @@
 
 ghost use Rattle.std.specs.Prelude.{◌≡◌, ◌<◌, ◌^◌, false, length, replicate, IfOk, IfErr, option_copied};
 ghost use Rattle.gate_model.specs.Fold.{sms_of};
-ghost use Rattle.gate_model.specs.Gate.{model_of, rules_of, Becomes, IsGate, is_leased, arrival_of, url_of, returns_of};
+ghost use Rattle.gate_model.specs.Gate.{model_of, rules_of, Becomes, IsGate, is_leased, arrival_of, id_of, url_of, returns_of};
 ghost use Rattle.gate_model.specs.State.{empty, totals_of};
 
 mod checking;
@@ -64,6 +64,16 @@ impl Gate {
         ensures { result.now ≡ rules_of self.now }
     {
         &self.rules
+    }
+
+    /// The SMSC id of a link, empty where there is none.
+    pub fn link_id(&self, link: u32) -> &[u8]
+        ensures { result.now ≡ id_of link (rules_of self.now) }
+    {
+        match self.rules.links.as_slice().get(link as usize) {
+            Some(rule) => rule.id.as_slice(),
+            None => &[],
+        }
     }
 
     /// What it counts.

@@ -27,4 +27,12 @@ impl Ready {
     {
         self.birth
     }
+
+    /// Gives the entry back. It takes no memory, and the gate keeps the room that was made for it.
+    pub fn into_entry(self) -> Recorded
+        ensures { result ≡ entry_of self }
+    {
+        let Ready { entry, birth: _ } = self;
+        entry
+    }
 }

@@ -1,13 +1,11 @@
 -- What deeds that lead from one store to another did, all together.
-use Rattle.std.proofs.Common.{◌≡◌, ℕ, Bool, List, [], ◌∷◌, ◌++◌, map, replicate, Option, refl, ap, sym, ◌∙◌, append_assoc, subst, zero, suc}
-use Rattle.std.specs.Prelude.{length, false}
+use Rattle.std.proofs.Common.{◌≡◌, ℕ, Bool, List, [], ◌∷◌, ◌++◌, length, refl, ap, sym, ◌∙◌, append_assoc, subst}
 use Rattle.std.proofs.lemmas.List.{append-nil}
 use Rattle.gate_entries.specs.declared.recorded.Recorded.{Recorded}
 use Rattle.gate_model.specs.Acceptor.{Deed}
-use Rattle.gate_model.specs.Fold.{Entry, after, recorded}
-use Rattle.gate_model.specs.Settling.{settle, kept}
-use Rattle.gate_model.specs.State.{State, empty}
-use Rattle.gate_model.proofs.SettlingLaws.{settle-after}
+use Rattle.gate_model.specs.Settling.{settle}
+use Rattle.gate_model.specs.State.{State}
+use Rattle.gate_model.proofs.SettlingLaws.{settled_since_birth}
 use Rattle.route_rules.specs.declared.rules.Rules.{Rules}
 use Rattle.store_disk.specs.Story.{Story}
 use Rattle.gate_store.specs.Deeds.{Does, Leads, IsReason, AreReasoned, MayBeUnsure, entry_of, entries_of, state_behind, done_of}
@@ -15,24 +13,9 @@ use Rattle.gate_store.specs.Entries.{start, state_of}
 use Rattle.gate_store.specs.Store.{IsStore, rules_in, state_in, unsure_in}
 use Rattle.gate_store.specs.declared.store.Store.{Store}
 
-none_up : (links : ℕ) → map (λ (up : Bool). false) (replicate links false) ≡ replicate links false
-none_up zero = refl
-none_up (suc links) = ap (λ ups. false ∷ ups) (none_up links)
-
--- nothing is left out of a state in which nothing has happened
-settle-empty : (links : ℕ) → settle (empty links) ≡ empty links
-settle-empty links = ap (λ ups. record (empty links) { up = ups }) (none_up links)
-
-kept-recorded : (entries : List Recorded) → kept (map recorded entries) ≡ map recorded entries
-kept-recorded [] = refl
-kept-recorded (entry ∷ entries) = ap (λ es. recorded entry ∷ es) (kept-recorded entries)
-
--- and nothing out of what entries make that are kept
+-- nothing is left out of what entries make that are kept
 pub settle-state_of : (rules : Rules) (entries : List Recorded) → settle (state_of rules entries) ≡ state_of rules entries
-settle-state_of rules entries =
-    settle-after (start rules) (map recorded entries)
-    ∙ ap (λ (s : State). after s (kept (map recorded entries))) (settle-empty (length rules.links))
-    ∙ ap (λ (es : List Entry). after (start rules) es) (kept-recorded entries)
+settle-state_of rules entries = settled_since_birth (length rules.links) entries
 
 module _ {D : Type 0} (tells : Bool) (story : D → Story) (faults calls : D → ℕ) where
   -- each outcome has its reason

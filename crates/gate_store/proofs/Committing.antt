@@ -27,6 +27,7 @@ use Rattle.gate_store.specs.Reopening.{ReopensTo, MayReopen, MayReopenIn}
 use Rattle.gate_store.specs.Store.{IsStore, IsOpen, disk_in, birth_in, rules_in, state_in, unsure_in}
 use Rattle.gate_store.specs.StoreSteps.{MayRecord, Commits, Settles, put_by}
 use Rattle.gate_store.specs.declared.store.Store.{Store}
+use Rattle.gate_model.proofs.SoundLaws.{sound-settle}
 use Rattle.gate_store.proofs.Recording.{UnsureComesNext, make_store, reopened_by}
 use Rattle.gate_store.proofs.Reopened.{may_reopen_in, settle-does}
 use Rattle.gate_store.proofs.Told.{told_leaves_weaker, told_leaves_both}
@@ -43,7 +44,7 @@ module _ {D : Type 0} (tells : Bool) (story : D → Story) where
       → (state_in store).entries < most_entries → ComesNext (state_of (rules_in store) entries) (entry_octets kept) kept
   comes_next store birth entries kept is may few =
       subst (λ (s : State). ComesNext s (entry_octets kept) kept) is.state
-      (record { spelled = refl; served = may.served; sound = sound_settled (state_in store) kept may.sound; few = few })
+      (record { spelled = refl; served = may.served; sound = sound-settle (state_in store) kept may.sound; few = few })
 
 module _ {D : Type 0} (tells : Bool) (story : D → Story) (faults calls : D → ℕ) (old new : Store D) where
   -- what was unsure is taken back, or the disk failed

@@ -3,7 +3,6 @@ pub mod Committing
 pub mod Composing
 pub mod Handed
 pub mod Loading
-pub mod Opening
 pub mod Recording
 pub mod Refusals
 pub mod Reopened

@@ -1,5 +1,5 @@
 -- Loading a store: the entries that were handed out so far.
-use Rattle.std.proofs.Common.{◌≡◌, ℕ, Bool, Option, Some, Ok, List, [], ◌∷◌, ◌++◌, refl, ap, sym, ◌∙◌, append_assoc, subst}
+use Rattle.std.proofs.Common.{◌≡◌, ℕ, ◌+◌, length, Bool, Option, Some, None, Ok, List, [], ◌∷◌, ◌++◌, refl, ap, sym, ◌∙◌, append_assoc, subst}
 use Rattle.std.proofs.lemmas.List.{append-nil}
 use Rattle.gate_entries.specs.declared.recorded.Recorded.{Recorded}
 use Rattle.gate_entries.specs.Entry.{entry_octets}
@@ -9,28 +9,31 @@ use Rattle.gate_model.specs.Loading.{gate_in, loaded, IsTaken, IsOutside, ComesN
 use Rattle.gate_model.specs.State.{State}
 use Rattle.gate_model.specs.declared.loader.Loader.{Loader}
 use Rattle.route_rules.specs.declared.rules.Rules.{Rules}
-use Rattle.store_disk.specs.Disk.{Areas}
-use Rattle.store_journal.specs.Journal.{IsJournal, HoldsSame, Hands, disk_of, birth_of, left}
+use Rattle.store_disk.specs.Story.{Story}
+use Rattle.store_journal.specs.Area.{gate_place}
+use Rattle.store_journal.specs.Journal.{IsJournal, HoldsSame, Hands, MovesOn, disk_of, area_of, birth_of, left, gate_of, next_gate}
 use Rattle.store_journal.specs.declared.journal.Journal.{Journal}
-use Rattle.gate_store.specs.Entries.{payloads, start, state_of, AreInTurn}
-use Rattle.gate_store.proofs.Turns.{after_more, in_turn_more, payloads_more, none_in_turn}
+use Rattle.gate_store.specs.Entries.{payloads, start, state_of, AreInTurn, StopsAt}
+use Rattle.gate_store.proofs.Turns.{after_more, in_turn_more, payloads_more}
 
 -- The entries so far are those in front of what is left to hand out, each in its turn, and the loader has read them.
-pub record HasLoaded {D : Type 0} (tells : Bool) (contents : D → Areas) (rules : Rules) (first now : Journal D) (loader : Loader) : Type 0 where
+pub record HasLoaded {D : Type 0} (tells : Bool) (story : D → Story) (rules : Rules) (first now : Journal D) (loader : Loader) : Type 0 where
   pub entries : List Recorded
   pub split : left first ≡ payloads entries ++ left now
   pub in_turn : AreInTurn (start rules) entries
   pub whole : IsGate (gate_in loader)
   pub ruled : rules_of (gate_in loader) ≡ rules
   pub state : loaded loader ≡ state_of rules entries
-  pub journal : IsJournal tells contents now (birth_of first) (left first)
+  pub journal : IsJournal tells story now (birth_of first) (left first) None
   pub disk : disk_of now ≡ disk_of first
+  pub area : area_of now ≡ area_of first
+  pub gate : next_gate now ≡ gate_place (payloads entries)
 
-module _ {D : Type 0} (tells : Bool) (contents : D → Areas) (rules : Rules) (first : Journal D) where
+module _ {D : Type 0} (tells : Bool) (story : D → Story) (rules : Rules) (first : Journal D) where
   -- before the first
-  pub HasLoaded-nil : (loader : Loader) → IsJournal tells contents first (birth_of first) (left first) → IsGate (gate_in loader)
-      → rules_of (gate_in loader) ≡ rules → loaded loader ≡ start rules → HasLoaded tells contents rules first first loader
-  HasLoaded-nil loader is whole ruled none = record {
+  pub HasLoaded-nil : (loader : Loader) → IsJournal tells story first (birth_of first) (left first) None → next_gate first ≡ 16 → IsGate (gate_in loader)
+      → rules_of (gate_in loader) ≡ rules → loaded loader ≡ start rules → HasLoaded tells story rules first first loader
+  HasLoaded-nil loader is gate whole ruled none = record {
     entries = [];
     split = refl;
     in_turn = tt;
@@ -39,14 +42,17 @@ module _ {D : Type 0} (tells : Bool) (contents : D → Areas) (rules : Rules) (f
     state = none;
     journal = is;
     disk = refl;
+    area = refl;
+    gate = gate;
   }
 
   -- one more
-  pub HasLoaded-more : (now next : Journal D) (loader later : Loader) (payload : List ℕ) → HasLoaded tells contents rules first now loader
-      → left now ≡ payload ∷ left next → HoldsSame tells contents now next → disk_of next ≡ disk_of now
+  pub HasLoaded-more : (now next : Journal D) (loader later : Loader) (payload : List ℕ) → HasLoaded tells story rules first now loader
+      → left now ≡ payload ∷ left next → HoldsSame tells story now next → disk_of next ≡ disk_of now → area_of next ≡ area_of now
+      → next_gate next ≡ next_gate now + 5 + length payload
       → IsTaken payload (loaded loader) (loaded later) → IsGate (gate_in later) → rules_of (gate_in later) ≡ rules_of (gate_in loader)
-      → HasLoaded tells contents rules first next later
-  HasLoaded-more now next loader later payload h took same disk taken whole ruled =
+      → HasLoaded tells story rules first next later
+  HasLoaded-more now next loader later payload h took same disk area gate taken whole ruled =
       let kept = taken.kept in
       let spelled : payload ≡ entry_octets kept = taken.next.spelled in
       let comes : ComesNext (state_of rules h.entries) (entry_octets kept) kept =
@@ -60,23 +66,36 @@ module _ {D : Type 0} (tells : Bool) (contents : D → Areas) (rules : Rules) (f
         whole = whole;
         ruled = ruled ∙ h.ruled;
         state = taken.holds ∙ ap (λ s. does s (recorded kept)) h.state ∙ sym (after_more (start rules) h.entries kept);
-        journal = same (birth_of first) (left first) h.journal;
+        journal = same (birth_of first) (left first) None h.journal;
         disk = disk ∙ h.disk;
+        area = area ∙ h.area;
+        gate = gate ∙ ap (λ n. n + 5 + length payload) h.gate ∙ ap (λ p. gate_place (payloads h.entries) + 5 + length p) spelled
+            ∙ sym (gate_place_more (payloads h.entries) (entry_octets kept)) ∙ ap gate_place (sym (payloads_more h.entries kept));
       }
 
-  -- where a payload isn't one that may come next, what is left to hand out is no list of entries in their turn
-  pub no_entries : (now next : Journal D) (loader : Loader) (payload : List ℕ) → HasLoaded tells contents rules first now loader
-      → left now ≡ payload ∷ left next → IsOutside payload (loaded loader)
-      → (others : List Recorded) → AreInTurn (start rules) others → left first ≡ payloads others → ⊥
-  no_entries now next loader payload h took outside others turn same =
-      none_in_turn (start rules) h.entries payload (left next) h.in_turn (subst (IsOutside payload) h.state outside) others turn
-      (sym (h.split ∙ ap (λ x. payloads h.entries ++ x) took) ∙ same)
+  -- where a payload isn't one that may come next, what is left to hand out stops at its gate
+  pub stops_at : (now next : Journal D) (loader : Loader) (payload : List ℕ) → HasLoaded tells story rules first now loader
+      → left now ≡ payload ∷ left next → gate_of next ≡ next_gate now → IsOutside payload (loaded loader) → StopsAt rules (left first) (gate_of next)
+  stops_at now next loader payload h took gate outside = record {
+    entries = h.entries;
+    payload = payload;
+    rest = left next;
+    split = h.split ∙ ap (λ x. payloads h.entries ++ x) took;
+    in_turn = h.in_turn;
+    outside = subst (IsOutside payload) h.state outside;
+    place = gate ∙ h.gate;
+  }
 
   -- the entries are all that there is
-  pub all_loaded : (now : Journal D) (loader : Loader) (h : HasLoaded tells contents rules first now loader) → left now ≡ [] → left first ≡ payloads h.entries
+  pub all_loaded : (now : Journal D) (loader : Loader) (h : HasLoaded tells story rules first now loader) → left now ≡ [] → left first ≡ payloads h.entries
   all_loaded now loader h ended = h.split ∙ ap (λ x. payloads h.entries ++ x) ended ∙ append-nil (payloads h.entries)
 
 -- the payload that was handed out stood first
 pub handed_first : (before now : List (List ℕ)) (handed : Option (List ℕ)) (payload : List ℕ) → Hands before (Ok handed) now → handed ≡ Some payload
     → before ≡ payload ∷ now
 handed_first before now handed payload hands is = let P : Option (List ℕ) → Type 0 = λ h. Hands before (Ok h) now in subst P is hands
+
+-- and its gate stood next
+pub moved_on : {D : Type 0} (old new : Journal D) (handed : Option (List ℕ)) (payload : List ℕ) → MovesOn old (Ok handed) new → handed ≡ Some payload
+    → (gate_of new ≡ next_gate old) × (next_gate new ≡ next_gate old + 5 + length payload)
+moved_on old new handed payload moves is = let P : Option (List ℕ) → Type 0 = λ h. MovesOn old (Ok h) new in subst P is moves

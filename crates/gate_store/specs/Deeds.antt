@@ -1,7 +1,6 @@
 -- What the calls of a store do, by their outcome.
-use Rattle.std.specs.Prelude.{◌≡◌, ◌⊎◌, ℕ, ◌<◌, ◌≤◌, ◌+◌, Bool, true, false, List, [], ◌∷◌, ◌++◌, ⊤, Option, Some, None, Result, Ok, Err, is_ok, length, slice_get, if◌then◌else◌}
+use Rattle.std.specs.Prelude.{◌≡◌, ◌⊎◌, ℕ, ◌<◌, ◌≤◌, ◌+◌, Bool, true, false, List, [], ◌∷◌, ◌++◌, ⊤, Option, Some, None, Result, Ok, Err, is_ok, length, if◌then◌else◌}
 use Rattle.std.specs.Bool.{OnTrue}
-use Rattle.std.specs.Option.{option_map_or}
 use Rattle.std.proofs.Common.{subst}
 use Rattle.kn_base.specs.Count.{Rose}
 use Rattle.gate_entries.specs.declared.cause.Cause.TheVariants.{Expired}
@@ -11,8 +10,8 @@ use Rattle.gate_entries.specs.declared.recorded.Recorded.{Recorded}
 use Rattle.gate_entries.specs.declared.recorded.Recorded.TheVariants as entry
 use Rattle.gate_model.specs.Acceptor.{Deed}
 use Rattle.gate_model.specs.Fold.{does, recorded, passing, sms_of}
-use Rattle.gate_model.specs.Lawful.{refusal, has_expired}
-use Rattle.gate_model.specs.Numbers.{value_under}
+use Rattle.gate_model.specs.Gate.{id_of}
+use Rattle.gate_model.specs.Lawful.{refusal, is_expired}
 use Rattle.gate_model.specs.Replies.{reply_to}
 use Rattle.gate_model.specs.Routing.{next}
 use Rattle.gate_model.specs.State.{State}
@@ -132,29 +131,21 @@ module _ {D : Type 0} (tells : Bool) (story : D → Story) (faults calls : D →
 
   -- ---- the next message of a link
 
-  -- the message that waits under a number has a validity, which has passed
-  abbrev pub is_late : State → (message now : ℕ) → Bool
-  is_late state message now = option_map_or (has_expired now) (value_under message state.waiting) false
-
   -- the entry by which a message is given up whose validity has passed
-  abbrev pub given_up : List ℕ → (message now : ℕ) → Recorded
-  given_up smsc message now = entry.Rejected (record { message = message; smsc = smsc; cause = Expired; time = now })
-
-  -- the id of a link
-  abbrev pub id_of : Rules → (link : ℕ) → List ℕ
-  id_of rules link = option_map_or (λ rule. rule.id) (slice_get rules.links link) []
+  abbrev pub given_up : Rules → (link now message : ℕ) → Recorded
+  given_up rules link now message = entry.Rejected (record { message = message; smsc = id_of link rules; cause = Expired; time = now })
 
   -- What a store answers to a link that asks for its next message, which is this one: where its validity has passed it is given up, and
   -- else it is taken, and the message handed out.
   abbrev pub TakesMessage : Store D → (link now message : ℕ) → Result (Option Taken) Refusal → Store D → Type 0
   TakesMessage old link now message (Ok None) new = ⊥
   TakesMessage old link now message (Ok (Some (taken.Send number sms))) new =
-      (is_late (state_in old) message now ≡ false) × (number ≡ message) × (Some sms ≡ sms_of message (state_in old)) × Passes old (Took link message now) new
+      (is_expired message now (state_in old) ≡ false) × (number ≡ message) × (Some sms ≡ sms_of message (state_in old)) × Passes old (Took link message now) new
   TakesMessage old link now message (Ok (Some (taken.Expired number))) new =
-      (is_late (state_in old) message now ≡ true) × (number ≡ message)
-      × (reply : Reply) × Performs old (given_up (id_of (rules_in old) link) message now) (Ok reply) new
+      (is_expired message now (state_in old) ≡ true) × (number ≡ message)
+      × (reply : Reply) × Performs old (given_up (rules_in old) link now message) (Ok reply) new
   TakesMessage old link now message (Err refusal) new =
-      if is_late (state_in old) message now then Performs old (given_up (id_of (rules_in old) link) message now) (Err refusal) new
+      if is_expired message now (state_in old) then Performs old (given_up (rules_in old) link now message) (Err refusal) new
       else ((refusal ≡ Memory) × (new ≡ old))
 
   -- what a store answers to a link that asks for its next message: nothing exactly where there is none

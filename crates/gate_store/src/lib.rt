@@ -1,14 +1,16 @@
 //! The store that keeps messages.
 //!
-//! `Store` keeps messages that were taken together as one entry of a journal, and knows how many wait. It is what
-//! `serve_http` hands messages to (`Acceptor`); it refuses those for which the queue has no room.
+//! `Store` keeps what happened to messages as entries of a journal, and what they make in a gate. It is what `serve_http` hands messages to
+//! (`Acceptor`), and what a link takes them from (`Taken`).
 //!
-//! The one contract: a store that is opened holds the entries that its disk stands for, each deed adds exactly the entry that
-//! was accepted, behind those that were there, and once a disk call has failed it can only be closed.
+//! The one contract: a stop at any moment leaves a store that reopens to the state after the entries that were recorded, or that with the one
+//! in flight, or the one that a disk fault left unsure; each call says what becomes of the state, and when it is refused.
 #![tactic(auto)]
 
 mod store;
 mod store_fault;
+mod taken;
 
 pub use store::Store;
 pub use store_fault::StoreFault;
+pub use taken::Taken;

@@ -29,7 +29,7 @@ use route_rules::Rules;
 use sms_record::Sms;
 use std::alloc::Global;
 use store_disk::{Disk, DiskFailed};
-use store_journal::{Journal, OpenFault};
+use store_journal::Journal;
 
 /// Messages on a disk, and what became of them.
 pub struct Store<D: Disk> {
@@ -59,11 +59,7 @@ impl<D: Disk> Store<D> {
     {
         match Journal::open(alloc, disk, birth) {
             Ok(journal) => load(alloc, rules, journal),
-            Err((disk, OpenFault::Foreign { area, at })) => {
-                Err((disk, StoreFault::Foreign { area, at }))
-            }
-            Err((disk, OpenFault::Disk)) => Err((disk, StoreFault::Disk)),
-            Err((disk, OpenFault::Memory)) => Err((disk, StoreFault::Memory)),
+            Err((disk, fault)) => Err((disk, fault.into())),
         }
     }
 

@@ -1,6 +1,10 @@
 //! Why a store can't be opened.
 
+ghost use Rattle.store_journal.specs.declared.fault.OpenFault.{OpenFault};
+ghost use Rattle.gate_store.specs.StoreFault.{same_fault};
+
 use store_disk::Area;
+use store_journal::OpenFault;
 
 /// Why a store can't be opened.
 #[derive(Clone, Copy)]
@@ -17,4 +21,16 @@ pub enum StoreFault {
     Disk,
     /// There was no memory.
     Memory,
+}
+
+impl From<OpenFault> for StoreFault {
+    ghost from_gives = { λ why fault. fault ≡ same_fault why };
+
+    fn from(why: OpenFault) -> StoreFault {
+        match why {
+            OpenFault::Foreign { area, at } => StoreFault::Foreign { area, at },
+            OpenFault::Disk => StoreFault::Disk,
+            OpenFault::Memory => StoreFault::Memory,
+        }
+    }
 }

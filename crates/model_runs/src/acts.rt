@@ -143,6 +143,18 @@ fn give_back(gate: &mut Gate, message: u64)
     }
 }
 
+/// Puts last which message a link takes next, and whether it is no longer worth sending.
+fn put_next(report: &mut Octets, gate: &Gate, link: u32, now: u64) -> Result<(), Memory>
+    requires { IsGate gate.now }
+{
+    let message = gate.next_for(link, now);
+    put_number(report, message)?;
+    match message {
+        Some(message) if gate.is_expired(message, now) => report.extend_from_slice(b" expired"),
+        _ => Ok(()),
+    }
+}
+
 /// Does an act, and puts last what it came to.
 fn put_act(alloc: Global, gate: &mut Gate, act: &[u8], report: &mut Octets) -> Result<(), Memory>
     requires { IsGate gate.old }
@@ -156,7 +168,7 @@ fn put_act(alloc: Global, gate: &mut Gate, act: &[u8], report: &mut Octets) -> R
     if kind == b"totals".as_slice() {
         put_totals(report, gate.totals())
     } else if kind == b"next".as_slice() {
-        put_number(report, gate.next_for(link, now))
+        put_next(report, gate, link, now)
     } else if kind == b"take".as_slice() {
         put_number(report, take(gate, link, now))
     } else if kind == b"back".as_slice() {

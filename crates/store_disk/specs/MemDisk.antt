@@ -49,3 +49,10 @@ told (entry ∷ log) areas = tell (act_of entry.area entry.deed (octets_of areas
 -- the story of a disk
 abbrev pub mem_story : MemDisk → Story
 mem_story disk = told (mem_log disk) (mem_areas disk)
+
+-- the entry of a write over areas as they are before it, and of a cut that leaves so many octets
+abbrev pub write_entry : ℕ → Area → ℕ → ℕ → Areas → Entry
+write_entry call area at count areas = record { call = call; area = area; deed = Wrote at count (take count (drop at (octets_of areas area))) }
+
+abbrev pub cut_entry : ℕ → Area → ℕ → ℕ → Areas → Entry
+cut_entry call area size left areas = record { call = call; area = area; deed = Cut size (drop left (octets_of areas area)) }

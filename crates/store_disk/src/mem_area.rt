@@ -15,6 +15,14 @@ pub fn covered(alloc: Global, octets: &[u8], at: usize, count: usize) -> Result<
     Octets::from_slice(alloc, &behind[..count.min(behind.len())])
 }
 
+/// What stands behind so many of these octets.
+pub fn behind(alloc: Global, octets: &[u8], at: usize) -> Result<Octets, Memory>
+    requires { at ≤ length octets.now }
+    ensures { IfOk result (λ was. was ≡ drop at octets.now) }
+{
+    Octets::from_slice(alloc, &octets[at..])
+}
+
 /// Writes over octets from a place on, and past their end. After `Memory` nothing has changed.
 pub fn write_over(octets: &mut Vec<u8>, at: usize, bytes: &[u8]) -> Result<(), Memory>
     requires { at ≤ length octets.old.items }

@@ -1,13 +1,13 @@
 //! A disk in memory, for tests and for what needs no file. It tells its story, and fails when told to.
 
-ghost use Rattle.std.specs.Prelude.{◌≡◌, ◌+◌, ◌≤◌, ◌∷◌, ◌↔◌, [], length, take, drop, IfOk, IfErr, OnOk, OnErr, IsErr};
+ghost use Rattle.std.specs.Prelude.{◌≡◌, ◌+◌, ◌≤◌, ◌∷◌, ◌↔◌, false, length, take, IfOk, OnOk, OnErr, IsErr};
 ghost use Rattle.kn_base.specs.Calls.{IsFailing, one_more};
 ghost use Rattle.kn_base.specs.Count.{next_count};
 ghost use Rattle.store_disk.specs.Disk.{CountsCall, IsWithin};
 
 use crate::disk::LAST_END;
 use crate::entry::{Deed, Entry};
-use crate::mem_area::{covered, write_over};
+use crate::mem_area::{behind, covered, write_over};
 use crate::{Area, Disk, DiskFailed};
 use kn_base::{MemCalls, Memory, Octets, raised};
 use std::alloc::Global;
@@ -92,22 +92,269 @@ impl MemDisk {
     }
 }
 
+// What each call does, which isn't counted yet.
 impl MemDisk {
     ghost use Rattle.store_disk.specs.Disk.{after_write, octets_of, with_octets};
-    ghost use Rattle.store_disk.specs.MemDisk.{mem_areas, mem_calls, mem_faults, mem_log, mem_story};
+    ghost use Rattle.store_disk.specs.MemDisk.{cut_entry, mem_areas, mem_calls, mem_faults, mem_log, write_entry};
+
+    // Notes what a call did. After `Memory` it isn't noted.
+    fn note(&mut self, entry: Entry) -> Result<(), Memory>
+        ensures ok { OnOk result (mem_log self.new ≡ entry ∷ mem_log self.old) }
+        ensures err { OnErr result (mem_log self.new ≡ mem_log self.old) }
+        ensures areas { mem_areas self.new ≡ mem_areas self.old }
+        ensures calls { mem_calls self.new ≡ mem_calls self.old }
+        ensures faults { mem_faults self.new ≡ mem_faults self.old }
+    {
+        Ok(self.log.push(entry)?)
+    }
+
+    // Notes a write, and what stands in its range.
+    fn note_write(&mut self, call: u64, area: Area, at: usize, count: usize) -> Result<(), Memory>
+        requires { IsWithin (mem_areas self.old) area at }
+        ensures ok { OnOk result (mem_log self.new ≡ write_entry call area at count (mem_areas self.old) ∷ mem_log self.old) }
+        ensures err { OnErr result (mem_log self.new ≡ mem_log self.old) }
+        ensures areas { mem_areas self.new ≡ mem_areas self.old }
+        ensures calls { mem_calls self.new ≡ mem_calls self.old }
+        ensures faults { mem_faults self.new ≡ mem_faults self.old }
+    {
+        let was = covered(self.alloc, self.area(area), at, count)?;
+        let deed = Deed::Wrote { at, count, was };
+        self.note(Entry { call, area, deed })
+    }
+
+    // Notes a cut that was to leave so many octets, and what stands behind those that it leaves.
+    fn note_cut(&mut self, call: u64, area: Area, size: usize, left: usize) -> Result<(), Memory>
+        requires { IsWithin (mem_areas self.old) area left }
+        ensures ok { OnOk result (mem_log self.new ≡ cut_entry call area size left (mem_areas self.old) ∷ mem_log self.old) }
+        ensures err { OnErr result (mem_log self.new ≡ mem_log self.old) }
+        ensures areas { mem_areas self.new ≡ mem_areas self.old }
+        ensures calls { mem_calls self.new ≡ mem_calls self.old }
+        ensures faults { mem_faults self.new ≡ mem_faults self.old }
+    {
+        let was = behind(self.alloc, self.area(area), left)?;
+        let deed = Deed::Cut { size, was };
+        self.note(Entry { call, area, deed })
+    }
+
+    // Writes to an area. After `Memory` nothing has changed.
+    fn put(&mut self, area: Area, at: usize, bytes: &[u8]) -> Result<(), Memory>
+        requires { IsWithin (mem_areas self.old) area at }
+        ensures ok { OnOk result (mem_areas self.new ≡ after_write area at bytes.now (mem_areas self.old)) }
+        ensures err { OnErr result (mem_areas self.new ≡ mem_areas self.old) }
+        ensures log { mem_log self.new ≡ mem_log self.old }
+        ensures calls { mem_calls self.new ≡ mem_calls self.old }
+        ensures faults { mem_faults self.new ≡ mem_faults self.old }
+    {
+        match area {
+            Area::A => write_over(&mut self.a, at, bytes),
+            Area::B => write_over(&mut self.b, at, bytes),
+            Area::Pick => write_over(&mut self.pick, at, bytes),
+        }
+    }
+
+    // Cuts an area.
+    fn truncate(&mut self, area: Area, size: usize)
+        ensures areas { mem_areas self.new ≡ with_octets (mem_areas self.old) area (take size (octets_of (mem_areas self.old) area)) }
+        ensures log { mem_log self.new ≡ mem_log self.old }
+        ensures calls { mem_calls self.new ≡ mem_calls self.old }
+        ensures faults { mem_faults self.new ≡ mem_faults self.old }
+    {
+        match area {
+            Area::A => self.a.truncate(size),
+            Area::B => self.b.truncate(size),
+            Area::Pick => self.pick.truncate(size),
+        }
+    }
+}
+
+// The calls, before their faults are counted.
+impl MemDisk {
+    ghost use Rattle.store_disk.specs.MemDisk.{mem_areas, mem_calls, mem_faults, mem_story};
     ghost use Rattle.store_disk.specs.Story.{Cuts, Syncs, Writes};
 
-    // Counts a fault where a call failed.
-    fn answered<T>(&mut self, done: Result<T, DiskFailed>) -> Result<T, DiskFailed>
-        ensures done { result ≡ done }
-        ensures counted { OnErr result (mem_faults self.new ≡ next_count (mem_faults self.old)) }
-        ensures uncounted { OnOk result (mem_faults self.new ≡ mem_faults self.old) }
+    // A write, which may be one that fails. Whatever fails leaves what the areas hold.
+    fn write(
+        &mut self,
+        call: u64,
+        area: Area,
+        at: usize,
+        bytes: &[u8],
+        fails: bool,
+    ) -> Result<(), DiskFailed>
+        requires { IsWithin (mem_areas self.old) area at }
+        ensures written { Writes area at bytes.now result (mem_story self.old) (mem_story self.new) }
+        ensures due { OnOk result (fails ≡ false) }
+        ensures unwritten { OnErr result (mem_areas self.new ≡ mem_areas self.old) }
         ensures calls { mem_calls self.new ≡ mem_calls self.old }
+        ensures faults { mem_faults self.new ≡ mem_faults self.old }
+    {
+        let Ok(()) = self.note_write(call, area, at, bytes.len()) else {
+            return Err(DiskFailed);
+        };
+        if fails {
+            return Err(DiskFailed);
+        }
+        match self.put(area, at, bytes) {
+            Ok(()) => Ok(()),
+            Err(Memory) => Err(DiskFailed),
+        }
+    }
+
+    // A cut, which may be one that fails. Whatever fails leaves what the areas hold.
+    fn shorten(
+        &mut self,
+        call: u64,
+        area: Area,
+        size: usize,
+        fails: bool,
+    ) -> Result<(), DiskFailed>
+        requires { IsWithin (mem_areas self.old) area size }
+        ensures cut { Cuts area size result (mem_story self.old) (mem_story self.new) }
+        ensures due { OnOk result (fails ≡ false) }
+        ensures uncut { OnErr result (mem_areas self.new ≡ mem_areas self.old) }
+        ensures calls { mem_calls self.new ≡ mem_calls self.old }
+        ensures faults { mem_faults self.new ≡ mem_faults self.old }
+    {
+        let left = if fails { self.area(area).len() } else { size };
+        let Ok(()) = self.note_cut(call, area, size, left) else {
+            return Err(DiskFailed);
+        };
+        if fails {
+            return Err(DiskFailed);
+        }
+        self.truncate(area, size);
+        Ok(())
+    }
+
+    // A sync. It fails where it can't be noted.
+    fn settle(&mut self, call: u64, area: Area) -> Result<(), DiskFailed>
+        ensures synced { Syncs area result (mem_story self.old) (mem_story self.new) }
+        ensures areas { mem_areas self.new ≡ mem_areas self.old }
+        ensures calls { mem_calls self.new ≡ mem_calls self.old }
+        ensures faults { mem_faults self.new ≡ mem_faults self.old }
+    {
+        let deed = Deed::Synced;
+        match self.note(Entry { call, area, deed }) {
+            Ok(()) => Ok(()),
+            Err(Memory) => Err(DiskFailed),
+        }
+    }
+
+    // Counts a call, and its fault where it is to fail.
+    fn begin(&mut self) -> Result<(), DiskFailed>
+        ensures fails { IsErr result ↔ IsFailing (mem_calls self.old) }
+        ensures calls { mem_calls self.new ≡ one_more (mem_calls self.old) }
+        ensures counted { CountsCall (mem_calls self.old).made (mem_calls self.new).made (mem_faults self.old) (mem_faults self.new) result }
+        ensures areas { mem_areas self.new ≡ mem_areas self.old }
+        ensures story { mem_story self.new ≡ mem_story self.old }
+    {
+        if self.calls.next_fails() {
+            self.faults = raised(self.faults);
+            return Err(DiskFailed);
+        }
+        Ok(())
+    }
+
+    // Counts a fault where a call failed.
+    fn answered(&mut self, done: Result<(), DiskFailed>) -> Result<(), DiskFailed>
+        ensures done { result ≡ done }
+        ensures failed { OnErr result (mem_faults self.new ≡ next_count (mem_faults self.old)) }
+        ensures ok { OnOk result (mem_faults self.new ≡ mem_faults self.old) }
+        ensures calls { mem_calls self.new ≡ mem_calls self.old }
+        ensures areas { mem_areas self.new ≡ mem_areas self.old }
         ensures story { mem_story self.new ≡ mem_story self.old }
     {
         if done.is_err() {
             self.faults = raised(self.faults);
         }
         done
+    }
+}
+
+impl Disk for MemDisk {
+    ghost use Rattle.std.specs.Prelude.{◌<◌, true};
+    ghost use Rattle.store_disk.specs.Disk.{Reads, octets_of};
+    ghost use Rattle.store_disk.specs.MemDisk.{mem_areas, mem_calls, mem_faults, mem_story};
+    ghost use Rattle.store_disk.specs.Story.{Cuts, Syncs, Writes};
+
+    ghost tells = { true };
+
+    ghost story = { mem_story };
+
+    ghost faults = { mem_faults };
+
+    ghost calls = { λ disk. (mem_calls disk).made };
+
+    fn size(&mut self, area: Area) -> Result<u64, DiskFailed>
+        ensures counted { CountsCall (mem_calls self.old).made (mem_calls self.new).made (mem_faults self.old) (mem_faults self.new) result }
+        ensures kept { mem_story self.new ≡ mem_story self.old }
+        ensures size { IfOk result (λ size. size ≡ length (octets_of (mem_areas self.old) area)) }
+        ensures areas { mem_areas self.new ≡ mem_areas self.old }
+        ensures fails { IsErr result ↔ IsFailing (mem_calls self.old) }
+        ensures calls { mem_calls self.new ≡ one_more (mem_calls self.old) }
+    {
+        self.begin()?;
+        Ok(self.area(area).len() as u64)
+    }
+
+    fn read(&mut self, area: Area, at: u64, into: &mut [u8]) -> Result<(), DiskFailed>
+        requires { IsWithin (mem_areas self.old) area (at + length into.old) }
+        ensures counted { CountsCall (mem_calls self.old).made (mem_calls self.new).made (mem_faults self.old) (mem_faults self.new) result }
+        ensures kept { mem_story self.new ≡ mem_story self.old }
+        ensures read { OnOk result (Reads (mem_areas self.old) area at into.new) }
+        ensures areas { mem_areas self.new ≡ mem_areas self.old }
+        ensures fails { IsErr result ↔ IsFailing (mem_calls self.old) }
+        ensures calls { mem_calls self.new ≡ one_more (mem_calls self.old) }
+    {
+        self.begin()?;
+        let from = at as usize;
+        into.copy_from_slice(&self.area(area)[from..from + into.len()]);
+        Ok(())
+    }
+
+    /// A write whose number is failing or whose end passes `LAST_END` fails. After a fault the area holds what it held.
+    fn write_at(&mut self, area: Area, at: u64, bytes: &[u8]) -> Result<(), DiskFailed>
+        requires some { 0 < length bytes.now }
+        requires inside { IsWithin (mem_areas self.old) area at }
+        ensures counted { CountsCall (mem_calls self.old).made (mem_calls self.new).made (mem_faults self.old) (mem_faults self.new) result }
+        ensures written { Writes area at bytes.now result (mem_story self.old) (mem_story self.new) }
+        ensures end { OnOk result (at + length bytes.now ≤ LAST_END) }
+        ensures unwritten { OnErr result (mem_areas self.new ≡ mem_areas self.old) }
+        ensures due { OnOk result (¬ IsFailing (mem_calls self.old)) }
+        ensures calls { mem_calls self.new ≡ one_more (mem_calls self.old) }
+    {
+        let call = self.calls.made();
+        let is_failing = self.calls.next_fails();
+        let fails = is_failing || at + bytes.len() as u64 > LAST_END;
+        let done = self.write(call, area, at as usize, bytes, fails);
+        self.answered(done)
+    }
+
+    /// A cut whose number is failing fails. After a fault the area holds what it held.
+    fn cut(&mut self, area: Area, size: u64) -> Result<(), DiskFailed>
+        requires { IsWithin (mem_areas self.old) area size }
+        ensures counted { CountsCall (mem_calls self.old).made (mem_calls self.new).made (mem_faults self.old) (mem_faults self.new) result }
+        ensures cut { Cuts area size result (mem_story self.old) (mem_story self.new) }
+        ensures uncut { OnErr result (mem_areas self.new ≡ mem_areas self.old) }
+        ensures due { OnOk result (¬ IsFailing (mem_calls self.old)) }
+        ensures calls { mem_calls self.new ≡ one_more (mem_calls self.old) }
+    {
+        let call = self.calls.made();
+        let fails = self.calls.next_fails();
+        let done = self.shorten(call, area, size as usize, fails);
+        self.answered(done)
+    }
+
+    fn sync(&mut self, area: Area) -> Result<(), DiskFailed>
+        ensures counted { CountsCall (mem_calls self.old).made (mem_calls self.new).made (mem_faults self.old) (mem_faults self.new) result }
+        ensures synced { Syncs area result (mem_story self.old) (mem_story self.new) }
+        ensures areas { mem_areas self.new ≡ mem_areas self.old }
+        ensures due { OnOk result (¬ IsFailing (mem_calls self.old)) }
+        ensures calls { mem_calls self.new ≡ one_more (mem_calls self.old) }
+    {
+        let call = self.calls.made();
+        self.begin()?;
+        let done = self.settle(call, area);
+        self.answered(done)
     }
 }

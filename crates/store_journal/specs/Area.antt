@@ -121,8 +121,3 @@ pub record IsText (octets : List ℕ) (birth : ℕ) (payloads : List (List ℕ))
   pub small : birth < 2 ^ 64
   pub sizes : All IsPayload payloads
   pub text : octets ≡ area_text birth payloads gate ++ behind
-
--- The picked area of a disk is the text of these payloads.
-pub record IsStored (areas : Areas) (area : Area) (birth : ℕ) (payloads : List (List ℕ)) : Type 0 where
-  pub picks : picked areas.pick ≡ Some area
-  pub text : IsText (octets_of areas area) birth payloads

@@ -1,10 +1,11 @@
 -- What a journal keeps, and what its calls answer.
-use Rattle.std.specs.Prelude.{◌≡◌, ◌<◌, ◌≤◌, ◌-◌, ◌^◌, ℕ, Bool, false, List, [], ◌∷◌, ◌++◌, length, take, drop, All, Option, Some, None, Result, Ok, Err}
+use Rattle.std.specs.Prelude.{◌≡◌, ◌⊎◌, ◌<◌, ◌≤◌, ◌+◌, ◌-◌, ◌^◌, ℕ, Bool, List, [], ◌∷◌, ◌++◌, length, take, drop, All, Option, Some, None, is_some, if◌then◌else◌, Result, Ok, Err, OnOk, OnErr}
 use Rattle.std.specs.Bool.{OnTrue}
 use Rattle.store_disk.specs.Disk.{Areas}
 use Rattle.store_disk.specs.Story.{Story, IsImage, LeavesOnly}
 use Rattle.store_disk.specs.declared.disk.DiskFailed.{DiskFailed}
-use Rattle.store_journal.specs.Area.{Standing, unborn, born, foreign, stands, gate_place, unit, payloads_in, IsPayload, IsStored}
+use Rattle.store_journal.specs.Area.{Standing, unborn, born, foreign, stands, gate_place, unit, payloads_in, IsPayload}
+use Rattle.store_journal.specs.Keeping.{IsKeptBy}
 use Rattle.store_disk.specs.declared.area.Area.{Area}
 use Rattle.store_disk.specs.declared.area.Area.TheVariants.{A}
 use Rattle.store_journal.specs.declared.fault.OpenFault.{OpenFault}
@@ -45,6 +46,10 @@ module _ {D : Type 0} where
   abbrev pub gate_of : Journal D → ℕ
   gate_of journal = journal.gate
 
+  -- the place of the gate of the payload that is handed out next, or of the closed gate that the opening found
+  abbrev pub next_gate : Journal D → ℕ
+  next_gate journal = journal.place
+
   -- the payload that the next append appends, empty where none is reserved
   abbrev pub reserved : Journal D → List ℕ
   reserved journal = take (length journal.unit.items - 6) (drop 5 journal.unit.items)
@@ -59,10 +64,10 @@ module _ {D : Type 0} where
     pub split : payloads ≡ handed ++ left journal
     pub place : journal.place ≤ length journal.octets.items
     pub end : journal.end ≡ gate_place payloads
+    pub bounded : journal.end < 2 ^ 63
     pub ready : 0 < length (reserved journal) → journal.unit.items ≡ unit (reserved journal) ++ 0 ∷ []
     pub fits : 0 < length (reserved journal) → IsPayload (reserved journal)
     pub doubt : journal.unsure ≡ is_some unsure
-    -- what the past of the areas is, from which follows that each image now may hold the payloads (the helper's to word: see below)
     pub kept : OnTrue tells (IsKeptBy (story journal.disk) journal.area birth payloads unsure)
 
   -- the journal holds some payloads
@@ -112,6 +117,13 @@ abbrev pub Hands : List (List ℕ) → Result (Option (List ℕ)) OpenFault → 
 Hands left (Ok None) now = (left ≡ []) × (now ≡ [])
 Hands left (Ok (Some payload)) now = left ≡ payload ∷ now
 Hands left (Err fault) now = (fault ≡ Memory) × (now ≡ left)
+
+-- Where the gates are: that of a payload which was handed out stood next, and the next one stands behind its unit; after None the gate is the
+-- closed one, and want of memory leaves both.
+abbrev pub MovesOn : {D : Type 0} → Journal D → Result (Option (List ℕ)) OpenFault → Journal D → Type 0
+MovesOn old (Ok None) new = (gate_of new ≡ next_gate old) × (next_gate new ≡ next_gate old)
+MovesOn old (Ok (Some payload)) new = (gate_of new ≡ next_gate old) × (next_gate new ≡ next_gate old + 5 + length payload)
+MovesOn old (Err fault) new = (gate_of new ≡ gate_of old) × (next_gate new ≡ next_gate old)
 
 -- a fact that holds unless the disk failed
 abbrev pub IsUnlessDisk : OpenFault → Type 0 → Type 0

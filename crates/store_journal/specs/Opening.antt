@@ -1,11 +1,13 @@
 -- What the steps of an opening find.
-use Rattle.std.specs.Prelude.{◌≡◌, ◌<◌, ◌≤◌, ◌^◌, ℕ, Bool, List, [], ◌∷◌, ◌++◌, length, drop, Ok, All}
+use Rattle.std.specs.Prelude.{◌≡◌, ◌⊎◌, ◌<◌, ◌≤◌, ◌^◌, ℕ, Bool, List, [], ◌∷◌, ◌++◌, length, drop, Ok, All, None}
 use Rattle.std.specs.Bool.{OnTrue}
 use Rattle.exact_octets.specs.declared.read_fault.ReadFault.{ReadFault}
 use Rattle.exact_octets.specs.declared.read_fault.ReadFault.TheVariants as faults
 use Rattle.exact_octets.specs.Reading.{many}
-use Rattle.store_disk.specs.Disk.{Areas, octets_of, after_write}
-use Rattle.store_journal.specs.Area.{foreign, stands, header, header_at, reading, fault_place, gate_place, unit, units, unit_at, area_text, payloads_in, behind_units, IsPayload, IsStored}
+use Rattle.store_disk.specs.Disk.{Areas, octets_of}
+use Rattle.store_disk.specs.Story.{Past, Story, at_rest, past_of, reads}
+use Rattle.store_journal.specs.Area.{born, foreign, unborn, stands, header, header_at, reading, fault_place, gate_place, unit, units, unit_at, area_text, payloads_in, behind_units, IsPayload}
+use Rattle.store_journal.specs.Keeping.{IsKeptBy, Stays}
 use Rattle.store_journal.specs.Journal.{OpensAs}
 use Rattle.store_disk.specs.declared.area.Area.{Area}
 use Rattle.store_disk.specs.declared.area.Area.TheVariants.{A, B, Pick}
@@ -43,22 +45,44 @@ IsMisfit area octets (Foreign other at) = reading area octets ≡ foreign other 
 IsMisfit area octets Disk = ⊥
 IsMisfit area octets Memory = Unit {0}
 
--- what was found at an opening, with the areas before it and now
-pub record IsFound (tells : Bool) (before now : Areas) (birth : ℕ) (found : Found) (payloads : List (List ℕ)) : Type 0 where
+-- what was found at an opening, with the story of the disk before it and now
+pub record IsFound (tells : Bool) (before now : Story) (birth : ℕ) (found : Found) (payloads : List (List ℕ)) : Type 0 where
   pub small : found.birth < 2 ^ 64
   pub sizes : All IsPayload payloads
   pub left : payloads_in (drop found.place found.octets.items) ≡ payloads
+  pub first : found.place ≡ 16
   pub place : found.place ≤ length found.octets.items
   pub end : found.end ≡ gate_place payloads
-  pub stored : OnTrue tells (IsStored now found.area found.birth payloads)
-  pub stood : OnTrue tells (OpensAs (stands before) birth found.birth found.area payloads)
+  pub bounded : found.end < 2 ^ 63
+  pub kept : OnTrue tells (IsKeptBy now found.area found.birth payloads None)
+  pub stood : OnTrue tells (OpensAs (stands (reads before)) birth found.birth found.area payloads)
 
--- an area holds more than a birth would write, where contents are told, or the disk failed
+-- an area holds more than a birth would write, where the story is told, or the disk failed
 abbrev pub IsMore : Bool → Areas → Area → OpenFault → Type 0
 IsMore tells areas area (Foreign more at) = (more ≡ area) × (at ≡ 17) × OnTrue tells (17 < length (octets_of areas area))
 IsMore tells areas area Disk = Unit {0}
 IsMore tells areas area Memory = ⊥
 
--- the areas after a birth: both have a header and a closed gate, and Pick picks the first
-abbrev pub after_birth : ℕ → Areas → Areas
-after_birth birth areas = after_write Pick 0 (1 ∷ []) (after_write B 0 (area_text birth [] 0) (after_write A 0 (area_text birth [] 0) areas))
+-- all areas are at rest: a stop leaves what they read as
+abbrev pub AreAtRest : Story → Type 0
+AreAtRest story = (area : Area) → past_of story area ≡ at_rest (octets_of (reads story) area)
+
+-- An area has no more octets than this, now and after a stop.
+pub record IsSmall (most : ℕ) (past : Past) : Type 0 where
+  pub reads : length past.octets ≤ most
+  pub greatest : past.greatest ≤ most
+
+-- Before Pick is written in a birth, a stop leaves a store that isn't born.
+pub record IsBare (story : Story) : Type 0 where
+  pub a : IsSmall 17 (past_of story A)
+  pub b : IsSmall 17 (past_of story B)
+  pub pick : IsSmall 0 (past_of story Pick)
+
+-- Before that both areas keep no payloads, so that it doesn't matter which one is picked.
+pub record AreFresh (birth : ℕ) (story : Story) : Type 0 where
+  pub a : Stays 0 (area_text birth [] 0) (past_of story A)
+  pub b : Stays 0 (area_text birth [] 0) (past_of story B)
+
+-- areas are a store that isn't born, or one that was born without payloads
+abbrev pub IsUnbornOrFresh : ℕ → Areas → Type 0
+IsUnbornOrFresh birth areas = (stands areas ≡ unborn) ⊎ ((area : Area) × (stands areas ≡ born birth area []))

@@ -1,20 +1,21 @@
 //! What an opening finds: which area is picked, and what it holds.
 
-ghost use Rattle.std.specs.Prelude.{◌≡◌, ℕ, drop, IfOk, IfErr, OnOk, Some};
+ghost use Rattle.std.specs.Prelude.{◌≡◌, ℕ, drop, IfOk, IfErr, OnOk, None, Some};
 ghost use Rattle.std.specs.Bool.{OnTrue};
-ghost use Rattle.store_journal.specs.Area.{picked, stands, payloads_in};
 ghost use Rattle.store_disk.specs.Disk.{octets_of};
-ghost use Rattle.store_journal.specs.Costs.{Spares};
-ghost use Rattle.store_journal.specs.Journal.{IsCause, IsUnlessDisk, IsUntouched, synced_after};
-ghost use Rattle.store_journal.specs.Opening.{IsFound};
+ghost use Rattle.store_disk.specs.Story.{IsImage, LeavesOnly, reads};
+ghost use Rattle.store_journal.specs.Area.{picked, stands, payloads_in};
+ghost use Rattle.store_journal.specs.Costs.{Spares, Spends};
+ghost use Rattle.store_journal.specs.Journal.{IsCause, IsUnlessDisk, IsUntouched, OpensOver};
+ghost use Rattle.store_journal.specs.Opening.{AreAtRest, IsFound};
 
 use crate::OpenFault;
-use crate::area_text::check;
+use crate::area_text::{check, fresh_area};
 use crate::birth::bear;
 use crate::header::HEADER;
 use crate::pick::read_pick;
 use std::alloc::Global;
-use store_disk::{Area, Disk};
+use store_disk::{Area, Disk, DiskFailed};
 
 /// What an opening found: the picked area, its octets, the place of the first unit in them, and the
 /// place of the closed gate in the area.
@@ -26,12 +27,23 @@ pub struct Found {
     pub end: u64,
 }
 
+// Puts all areas at rest, so that what is read of them stays.
+fn settle<D: Disk>(disk: &mut D) -> Result<(), DiskFailed>
+    ensures rest { OnOk result (OnTrue D.tells (AreAtRest (D.story disk.new))) }
+    ensures same { OnTrue D.tells (reads (D.story disk.new) ≡ reads (D.story disk.old)) }
+    ensures stops { OnTrue D.tells (LeavesOnly (D.story disk.old) (D.story disk.new) (IsImage (D.story disk.old))) }
+    ensures spends { Spends 3 (D.calls disk.old) (D.calls disk.new) (D.faults disk.old) (D.faults disk.new) result }
+{
+    disk.sync(Area::A)?;
+    disk.sync(Area::B)?;
+    disk.sync(Area::Pick)
+}
+
 // All octets of an area, in one read.
 fn read_whole<D: Disk>(alloc: Global, disk: &mut D, area: Area) -> Result<Vec<u8>, OpenFault>
-    ensures octets { IfOk result (λ octets. OnTrue D.tells (octets.items ≡ octets_of (D.contents disk.old) area)) }
-    ensures kept { D.contents disk.new ≡ D.contents disk.old }
-    ensures kept_synced { D.synced disk.new ≡ D.synced disk.old }
-    ensures cause { IfErr result (λ fault. OnTrue D.tells (IsCause (D.contents disk.old) fault)) }
+    ensures octets { IfOk result (λ octets. OnTrue D.tells (octets.items ≡ octets_of (reads (D.story disk.old)) area)) }
+    ensures kept { D.story disk.new ≡ D.story disk.old }
+    ensures cause { IfErr result (λ fault. OnTrue D.tells (IsCause (reads (D.story disk.old)) fault)) }
     ensures spares { Spares 2 (D.calls disk.old) (D.calls disk.new) (D.faults disk.old) (D.faults disk.new) result }
 {
     let size = disk.size(area)?;
@@ -42,11 +54,11 @@ fn read_whole<D: Disk>(alloc: Global, disk: &mut D, area: Area) -> Result<Vec<u8
 
 // The picked area: its birth and its payloads.
 fn load_area<D: Disk>(alloc: Global, disk: &mut D, area: Area) -> Result<Found, OpenFault>
-    requires { OnTrue D.tells (picked (D.contents disk.old).pick ≡ Some area) }
-    ensures found { IfOk result (λ found. (birth : ℕ) → IsFound D.tells (D.contents disk.old) (D.contents disk.new) birth found (payloads_in (drop found.place found.octets.items))) }
-    ensures synced { OnOk result (OnTrue D.tells (D.synced disk.new ≡ synced_after (stands (D.contents disk.old)) (D.synced disk.old))) }
-    ensures cause { IfErr result (λ fault. OnTrue D.tells (IsCause (D.contents disk.old) fault)) }
-    ensures kept { D.contents disk.new ≡ D.contents disk.old }
+    requires picks { OnTrue D.tells (picked (reads (D.story disk.old)).pick ≡ Some area) }
+    requires rest { OnTrue D.tells (AreAtRest (D.story disk.old)) }
+    ensures found { IfOk result (λ found. (birth : ℕ) → IsFound D.tells (D.story disk.old) (D.story disk.new) birth found (payloads_in (drop found.place found.octets.items))) }
+    ensures cause { IfErr result (λ fault. OnTrue D.tells (IsCause (reads (D.story disk.old)) fault)) }
+    ensures kept { D.story disk.new ≡ D.story disk.old }
     ensures spares { Spares 2 (D.calls disk.old) (D.calls disk.new) (D.faults disk.old) (D.faults disk.new) result }
 {
     let octets = read_whole(alloc, disk, area)?;
@@ -62,26 +74,54 @@ fn load_area<D: Disk>(alloc: Global, disk: &mut D, area: Area) -> Result<Found, 
     }
 }
 
-/// What a store holds: that of its picked area, or nothing, where it isn't born and is born now.
-pub fn load<D: Disk>(alloc: Global, disk: &mut D, birth: u64) -> Result<Found, OpenFault>
-    ensures found { IfOk result (λ found. IsFound D.tells (D.contents disk.old) (D.contents disk.new) birth found (payloads_in (drop found.place found.octets.items))) }
-    ensures synced { OnOk result (OnTrue D.tells (D.synced disk.new ≡ synced_after (stands (D.contents disk.old)) (D.synced disk.old))) }
-    ensures cause { IfErr result (λ fault. OnTrue D.tells (IsCause (D.contents disk.old) fault)) }
-    ensures untouched { OnTrue D.tells (IsUntouched (D.contents disk.old) (D.contents disk.new)) }
-    ensures kept { IfErr result (λ fault. IsUnlessDisk fault (D.contents disk.new ≡ D.contents disk.old)) }
+// A store that isn't born, which is born now.
+fn bear_found<D: Disk>(alloc: Global, disk: &mut D, birth: u64) -> Result<Found, OpenFault>
+    requires unpicked { OnTrue D.tells (picked (reads (D.story disk.old)).pick ≡ None) }
+    requires rest { OnTrue D.tells (AreAtRest (D.story disk.old)) }
+    ensures found { IfOk result (λ found. IsFound D.tells (D.story disk.old) (D.story disk.new) birth found (payloads_in (drop found.place found.octets.items))) }
+    ensures stops { OnTrue D.tells (OpensOver (D.story disk.old) (D.story disk.new)) }
+    ensures cause { IfErr result (λ fault. OnTrue D.tells (IsCause (reads (D.story disk.old)) fault)) }
+    ensures untouched { OnTrue D.tells (IsUntouched (reads (D.story disk.old)) (reads (D.story disk.new))) }
+    ensures unchanged { IfErr result (λ fault. OnTrue D.tells (IsUnlessDisk fault (D.story disk.new ≡ D.story disk.old))) }
+    ensures spares { Spares 8 (D.calls disk.old) (D.calls disk.new) (D.faults disk.old) (D.faults disk.new) result }
+{
+    let mut octets = Vec::new(alloc);
+    octets.extend_from_slice(&fresh_area(birth))?;
+    bear(disk, birth)?;
+    Ok(Found {
+        area: Area::A,
+        birth,
+        octets,
+        place: HEADER,
+        end: HEADER as u64,
+    })
+}
+
+// What a store at rest holds: that of its picked area, or nothing, where it isn't born and is born now.
+fn load_at_rest<D: Disk>(alloc: Global, disk: &mut D, birth: u64) -> Result<Found, OpenFault>
+    requires rest { OnTrue D.tells (AreAtRest (D.story disk.old)) }
+    ensures found { IfOk result (λ found. IsFound D.tells (D.story disk.old) (D.story disk.new) birth found (payloads_in (drop found.place found.octets.items))) }
+    ensures stops { OnTrue D.tells (OpensOver (D.story disk.old) (D.story disk.new)) }
+    ensures cause { IfErr result (λ fault. OnTrue D.tells (IsCause (reads (D.story disk.old)) fault)) }
+    ensures untouched { OnTrue D.tells (IsUntouched (reads (D.story disk.old)) (reads (D.story disk.new))) }
+    ensures unchanged { IfErr result (λ fault. OnTrue D.tells (IsUnlessDisk fault (D.story disk.new ≡ D.story disk.old))) }
     ensures spares { Spares 10 (D.calls disk.old) (D.calls disk.new) (D.faults disk.old) (D.faults disk.new) result }
 {
     match read_pick(disk)? {
         Some(area) => load_area(alloc, disk, area),
-        None => {
-            bear(disk, birth)?;
-            Ok(Found {
-                area: Area::A,
-                birth,
-                octets: Vec::new(alloc),
-                place: 0,
-                end: HEADER as u64,
-            })
-        }
+        None => bear_found(alloc, disk, birth),
     }
+}
+
+/// What a store holds, once all its areas are at rest: that of its picked area, or nothing, where it isn't born and is born now.
+pub fn load<D: Disk>(alloc: Global, disk: &mut D, birth: u64) -> Result<Found, OpenFault>
+    ensures found { IfOk result (λ found. IsFound D.tells (D.story disk.old) (D.story disk.new) birth found (payloads_in (drop found.place found.octets.items))) }
+    ensures stops { OnTrue D.tells (OpensOver (D.story disk.old) (D.story disk.new)) }
+    ensures cause { IfErr result (λ fault. OnTrue D.tells (IsCause (reads (D.story disk.old)) fault)) }
+    ensures untouched { OnTrue D.tells (IsUntouched (reads (D.story disk.old)) (reads (D.story disk.new))) }
+    ensures unchanged { IfErr result (λ fault. OnTrue D.tells (IsUnlessDisk fault (reads (D.story disk.new) ≡ reads (D.story disk.old)))) }
+    ensures spares { Spares 13 (D.calls disk.old) (D.calls disk.new) (D.faults disk.old) (D.faults disk.new) result }
+{
+    settle(disk)?;
+    load_at_rest(alloc, disk, birth)
 }

@@ -2,6 +2,7 @@
 
 ghost use Rattle.std.specs.Prelude.{◌≡◌, IfOk, IfErr};
 ghost use Rattle.std.specs.Bool.{OnTrue};
+ghost use Rattle.store_disk.specs.Story.{reads};
 ghost use Rattle.store_journal.specs.Area.{picked};
 ghost use Rattle.store_journal.specs.Costs.{Spares};
 
@@ -16,10 +17,9 @@ const PICKS_B: u8 = 2;
 
 /// The area that Pick picks, if it holds an octet.
 pub fn read_pick<D: Disk>(disk: &mut D) -> Result<Option<Area>, OpenFault>
-    ensures pick { IfOk result (λ pick. OnTrue D.tells (pick ≡ picked (D.contents disk.old).pick)) }
+    ensures pick { IfOk result (λ pick. OnTrue D.tells (pick ≡ picked (reads (D.story disk.old)).pick)) }
     ensures err { IfErr result (λ fault. fault ≡ OpenFault.Disk) }
-    ensures kept { D.contents disk.new ≡ D.contents disk.old }
-    ensures kept_synced { D.synced disk.new ≡ D.synced disk.old }
+    ensures kept { D.story disk.new ≡ D.story disk.old }
     ensures spares { Spares 2 (D.calls disk.old) (D.calls disk.new) (D.faults disk.old) (D.faults disk.new) result }
 {
     if disk.size(Area::Pick)? == 0 {

@@ -46,6 +46,14 @@ impl Gate {
         self.suits_state(entry) && self.counts.entries < MOST_ENTRIES
     }
 
+    /// Whether a message waits that is no longer worth sending at a reading of the clock: an end was asked for, and it has come. It
+    /// takes no memory.
+    pub fn is_expired(&self, message: u64, time: u64) -> bool
+        ensures { result ≡ spec.is_expired message time (model_of self.now) }
+    {
+        self.may_end(message, time, Cause::Expired)
+    }
+
     /// Whether an entry suits what the gate holds.
     fn suits_state(&self, entry: &Recorded) -> bool
         ensures { result ≡ spec.suits (model_of self.now) entry.now }

@@ -1,15 +1,16 @@
 //! The next message of a link.
 
-ghost use Rattle.std.specs.Prelude.{◌≡◌, ◌<◌, ◌≤◌, ◌^◌, true, false, length, Some};
-ghost use Rattle.gate_model.specs.Fold.{sms_of};
+ghost use Rattle.std.specs.Prelude.{◌≡◌, ◌<◌, ◌^◌, true, false, Some};
+ghost use Rattle.gate_model.specs.Gate.{HaveIds};
+ghost use Rattle.gate_model.specs.Lawful.{is_expired};
 ghost use Rattle.gate_model.specs.Routing.{next};
-ghost use Rattle.gate_store.specs.Deeds.{Takes, TakesMessage, id_of, is_late};
+ghost use Rattle.gate_store.specs.Deeds.{Takes, TakesMessage};
 ghost use Rattle.gate_store.specs.Store.{IsOpen, rules_in, state_in};
 
 use crate::{Store, Taken};
 use gate_entries::{Cause, Passing, Recorded, Rejected};
 use gate_model::Refusal;
-use kn_base::{Memory, Octets};
+use kn_base::Octets;
 use sms_record::copy_sms;
 use store_disk::Disk;
 
@@ -21,13 +22,13 @@ impl<D: Disk> Store<D> {
     pub fn take_next(&mut self, link: u32, now: u64) -> Result<Option<Taken>, Refusal>
         requires kept { IsOpen D.tells D.story self.old }
         requires time { now < 2 ^ 37 }
-        requires id { length (id_of (rules_in self.old) link) ≤ 2048 }
+        requires ids { HaveIds (rules_in self.old) }
         ensures { Takes D.tells D.story D.faults D.calls self.old link now result self.new }
     {
         let Some(message) = self.gate.next_for(link, now) else {
             return Ok(None);
         };
-        if self.gate.is_late(message, now) {
+        if self.gate.is_expired(message, now) {
             self.give_up(link, message, now)
         } else {
             self.send(link, message, now)
@@ -38,11 +39,12 @@ impl<D: Disk> Store<D> {
     fn give_up(&mut self, link: u32, message: u64, now: u64) -> Result<Option<Taken>, Refusal>
         requires kept { IsOpen D.tells D.story self.old }
         requires time { now < 2 ^ 37 }
-        requires id { length (id_of (rules_in self.old) link) ≤ 2048 }
-        requires late { is_late (state_in self.old) message now ≡ true }
+        requires ids { HaveIds (rules_in self.old) }
+        requires next { next (rules_in self.old) (state_in self.old) link now ≡ Some message }
+        requires late { is_expired message now (state_in self.old) ≡ true }
         ensures { TakesMessage D.tells D.story D.faults D.calls self.old link now message result self.new }
     {
-        let Ok(smsc) = self.id_of_link(link) else {
+        let Ok(smsc) = Octets::from_slice(self.alloc, self.gate.link_id(link)) else {
             return Err(Refusal::Memory);
         };
         self.perform(Recorded::Rejected(Rejected {
@@ -54,22 +56,12 @@ impl<D: Disk> Store<D> {
         Ok(Some(Taken::Expired { message }))
     }
 
-    // A copy of the id of a link.
-    fn id_of_link(&self, link: u32) -> Result<Octets, Memory>
-        ensures { IfOk result (λ id. id ≡ id_of (rules_in self.now) link) }
-    {
-        match self.gate.rules().links.as_slice().get(link as usize) {
-            Some(rule) => Octets::from_slice(self.alloc, rule.id.as_slice()),
-            None => Ok(Octets::new(self.alloc)),
-        }
-    }
-
     // Hands out a message, which the link takes.
     fn send(&mut self, link: u32, message: u64, now: u64) -> Result<Option<Taken>, Refusal>
         requires kept { IsOpen D.tells D.story self.old }
         requires time { now < 2 ^ 37 }
-        requires fresh { is_late (state_in self.old) message now ≡ false }
         requires next { next (rules_in self.old) (state_in self.old) link now ≡ Some message }
+        requires fresh { is_expired message now (state_in self.old) ≡ false }
         ensures { TakesMessage D.tells D.story D.faults D.calls self.old link now message result self.new }
     {
         let Some(sms) = self.gate.sms(message) else {

@@ -1,0 +1,88 @@
+-- What is sound is sound whoever has taken what, and whichever links are up.
+use Rattle.std.proofs.Common.{◌≡◌, refl, sym, ap, ◌∙◌, subst, ℕ, ◌==◌, true, false, cond, List, [], ◌∷◌, Option, Some, None}
+use Rattle.std.specs.Prelude.{◌&&◌, option_map, is_some, IsTrue}
+use Rattle.std.specs.List.{list_all}
+use Rattle.std.specs.Option.{option_map_or}
+use Rattle.route_rules.specs.declared.rules.Rules.{Rules}
+use Rattle.gate_entries.specs.declared.cause.Cause.{Cause}
+use Rattle.gate_entries.specs.declared.cause.Cause.TheVariants.{Centre, Expired}
+use Rattle.gate_entries.specs.declared.recorded.Recorded.{Recorded}
+use Rattle.gate_entries.specs.declared.recorded.Recorded.TheVariants as entry
+use Rattle.gate_model.specs.declared.waiting.Waiting.{Waiting}
+use Rattle.gate_model.specs.Numbers.{is_held, value_under, with_changes}
+use Rattle.gate_model.specs.State.{State}
+use Rattle.gate_model.specs.Fold.{Entry, recorded, passing, does, counts_entry, sms_of}
+use Rattle.gate_model.specs.Lawful.{IsLawful, IsSound, suits, may_end, has_expired, are_distinct, is_time}
+use Rattle.gate_model.specs.Fates.{AreSound}
+use Rattle.gate_model.specs.Settling.{settle, free_waiting, free_arrival, free_job, kept}
+use Rattle.gate_model.proofs.SettlingLaws.{settle-keeps, settle-passes}
+
+module _ {T : Type 0} (every : T → T) where
+  -- each value is changed where it is
+  pub value_under-with_changes : (number : ℕ) (pairs : List (ℕ × T)) → value_under number (with_changes every pairs) ≡ option_map every (value_under number pairs)
+  value_under-with_changes number [] = refl
+  value_under-with_changes number (pair ∷ pairs) =
+      elim (pair.0 == number) as (λ b. cond b (Some (every pair.1)) (value_under number (with_changes every pairs)) ≡ option_map every (cond b (Some pair.1) (value_under number pairs))) [
+        | true ↦ refl
+        | false ↦ value_under-with_changes number pairs
+      ]
+
+  still_there : (value : Option T) → is_some (option_map every value) ≡ is_some value
+  still_there None = refl
+  still_there (Some value) = refl
+
+  -- and none comes or goes
+  pub held-with_changes : (number : ℕ) (pairs : List (ℕ × T)) → is_held number (with_changes every pairs) ≡ is_held number pairs
+  held-with_changes number pairs = ap is_some (value_under-with_changes number pairs) ∙ still_there (value_under number pairs)
+
+-- a message is stored in what is left of a state exactly where it is in the state
+pub held-settle : (message : ℕ) (state : State) → is_held message (settle state).waiting ≡ is_held message state.waiting
+held-settle message state = held-with_changes free_waiting message state.waiting
+
+-- and it is the same one
+pub sms-settle : (message : ℕ) (state : State) → sms_of message (settle state) ≡ sms_of message state
+sms-settle message state = ap (option_map (λ waiting. waiting.sms)) (value_under-with_changes free_waiting message state.waiting) ∙ same (value_under message state.waiting)
+  where
+    same : (waiting : Option Waiting) → option_map (λ waiting. waiting.sms) (option_map free_waiting waiting) ≡ option_map (λ waiting. waiting.sms) waiting
+    same None = refl
+    same (Some waiting) = refl
+
+may_end-settle : (state : State) (message time : ℕ) (cause : Cause) → may_end (settle state) message time cause ≡ may_end state message time cause
+may_end-settle state message time (Centre code) = held-settle message state
+may_end-settle state message time Expired = ap (λ w. option_map_or (has_expired time) w false) (value_under-with_changes free_waiting message state.waiting) ∙ same (value_under message state.waiting)
+  where
+    same : (waiting : Option Waiting) → option_map_or (has_expired time) (option_map free_waiting waiting) false ≡ option_map_or (has_expired time) waiting false
+    same None = refl
+    same (Some waiting) = refl
+
+all_held-settle : (state : State) (numbers : List ℕ) → list_all (λ arrival. is_held arrival (settle state).arrivals) numbers ≡ list_all (λ arrival. is_held arrival state.arrivals) numbers
+all_held-settle state [] = refl
+all_held-settle state (number ∷ numbers) = rw (held-with_changes free_arrival number state.arrivals, all_held-settle state numbers) refl
+
+-- what suits a state suits what is left of it
+pub suits-settle : (state : State) (one : Recorded) → suits (settle state) one ≡ suits state one
+suits-settle state (entry.Accept accept) = refl
+suits-settle state (entry.Acked acked) = ap (λ b. b && is_time acked.time) (held-settle acked.message state)
+suits-settle state (entry.Rejected rejected) = ap (λ b. b && is_time rejected.time) (may_end-settle state rejected.message rejected.time rejected.cause)
+suits-settle state (entry.Reported reported) = refl
+suits-settle state (entry.Arrived arrived) = refl
+suits-settle state (entry.Answered answered) = ap (λ b. (b && are_distinct answered.arrivals) && is_time answered.time) (all_held-settle state answered.arrivals)
+suits-settle state (entry.Called called) = held-with_changes free_job called.job state.jobs
+suits-settle state (entry.CallDropped dropped) = held-with_changes free_job dropped.job state.jobs
+
+pub sound-settle : (state : State) (one : Recorded) → IsSound state one → IsSound (settle state) one
+sound-settle state one sound = (sound.0, subst IsTrue (sym (suits-settle state one)) sound.1)
+
+-- a lawful entry is sound, here and in what is left of the state
+pub sound_where_lawful : (rules : Rules) (state : State) (one : Recorded) → IsLawful rules state (recorded one) → IsSound state one × IsSound (settle state) one
+sound_where_lawful rules state one lawful = (lawful.0, sound-settle state one lawful.0)
+
+-- what is kept of sound entries is sound where the state before them is settled
+pub are_sound-settle : (state : State) (entries : List Entry) → AreSound state entries → AreSound (settle state) (kept entries)
+are_sound-settle state [] sound = tt
+are_sound-settle state (recorded one ∷ entries) sound = (
+  sound-settle state one sound.0,
+  subst (λ s. AreSound (counts_entry s) (kept entries)) (settle-keeps state one) (are_sound-settle (does state (recorded one)) entries sound.1),
+)
+are_sound-settle state (passing brief ∷ entries) sound =
+    subst (λ s. AreSound s (kept entries)) (settle-passes state brief) (are_sound-settle (does state (passing brief)) entries sound.1)
