@@ -77,25 +77,25 @@ told_other entry log areas area off =
     past_of-other (told log (areas_before entry areas)) (act_of entry.area entry.deed (octets_of areas entry.area)) area (is_on-act_of area entry.area entry.deed (octets_of areas entry.area) ∙ off)
 
 -- an area reads as what the disk holds there
-pub octets-told : (log : List Entry) (areas : Areas) (area : Area) → (past_of (told log areas) area).octets ≡ octets_of areas area
-octets-told [] areas area = refl
-octets-told (entry ∷ log) areas area = ⊎_elim
+pub octets_told : (log : List Entry) (areas : Areas) (area : Area) → (past_of (told log areas) area).octets ≡ octets_of areas area
+octets_told [] areas area = refl
+octets_told (entry ∷ log) areas area = ⊎_elim
     (λ same. ap (λ (past : Past). past.octets) (told_own entry log areas area same)
         ∙ octets_behind area entry.deed (octets_of areas area) (past_of (told log (areas_before entry areas)) area)
-            (octets-told log (areas_before entry areas) area
+            (octets_told log (areas_before entry areas) area
             ∙ ap (λ a. octets_of (with_octets areas a (octets_before entry.deed (octets_of areas a))) area) (sym same)
             ∙ octets_of-with areas area (octets_before entry.deed (octets_of areas area))))
     (λ off. ap (λ (past : Past). past.octets) (told_other entry log areas area off)
-        ∙ octets-told log (areas_before entry areas) area
+        ∙ octets_told log (areas_before entry areas) area
         ∙ octets_of-others areas area entry.area (octets_before entry.deed (octets_of areas entry.area)) off)
     (same_or_not area entry.area)
 
 -- the story reads as what the disk holds
-pub reads-told : (log : List Entry) (areas : Areas) → reads (told log areas) ≡ areas
-reads-told log areas = λ i. record { a = octets-told log areas A i; b = octets-told log areas B i; pick = octets-told log areas Pick i }
+pub reads_told : (log : List Entry) (areas : Areas) → reads (told log areas) ≡ areas
+reads_told log areas = λ i. record { a = octets_told log areas A i; b = octets_told log areas B i; pick = octets_told log areas Pick i }
 
-pub read-told : (log : List Entry) (areas : Areas) (area : Area) → octets_of (reads (told log areas)) area ≡ octets_of areas area
-read-told log areas area = ap (λ areas. octets_of areas area) (reads-told log areas)
+pub read_told : (log : List Entry) (areas : Areas) (area : Area) → octets_of (reads (told log areas)) area ≡ octets_of areas area
+read_told log areas area = ap (λ areas. octets_of areas area) (reads_told log areas)
 
 -- ---- one call
 
@@ -139,14 +139,14 @@ told_written call area at bytes log new_log areas new le noted wrote_now =
     let octets = octets_of areas area in
     (λ i. told (noted i) (wrote_now i))
     ∙ told_more call area (Wrote at (length bytes) (take (length bytes) (drop at octets))) log areas (written octets at bytes) (unwritten at octets bytes le)
-    ∙ ap (λ (l : List ℕ). tell (wrote area at (length bytes) (written l at bytes)) (told log areas)) (sym (read-told log areas area))
+    ∙ ap (λ (l : List ℕ). tell (wrote area at (length bytes) (written l at bytes)) (told log areas)) (sym (read_told log areas area))
 
 -- a write that failed and left what the disk holds
 pub told_unwritten : (call : ℕ) (area : Area) (at count : ℕ) (log new_log : List Entry) (areas new : Areas) → new_log ≡ write_entry call area at count areas ∷ log → new ≡ areas
     → (octets : List ℕ) × (told new_log new ≡ tell (wrote area at count octets) (told log areas)) × Tears at count (octets_of (reads (told log areas)) area) octets
 told_unwritten call area at count log new_log areas new noted same =
     let octets = octets_of areas area in
-    let read = read-told log areas area in
+    let read = read_told log areas area in
     (octets,
     (λ i. told (noted i) (same i))
     ∙ ap (λ a. told (write_entry call area at count areas ∷ log) a) (sym (with_octets-same areas area))
@@ -165,7 +165,7 @@ told_cut call area size log new_log areas new noted cut_now =
     let octets = octets_of areas area in
     (λ i. told (noted i) (cut_now i))
     ∙ told_more call area (Cut size (drop size octets)) log areas (take size octets) (take-append-drop size octets)
-    ∙ ap (λ (l : List ℕ). tell (cut area size (take size l)) (told log areas)) (sym (read-told log areas area))
+    ∙ ap (λ (l : List ℕ). tell (cut area size (take size l)) (told log areas)) (sym (read_told log areas area))
 
 -- a cut that failed and left what the disk holds
 pub told_uncut : (call : ℕ) (area : Area) (size left : ℕ) (log new_log : List Entry) (areas new : Areas) → size ≤ length (octets_of areas area) → left ≡ length (octets_of areas area)
@@ -173,7 +173,7 @@ pub told_uncut : (call : ℕ) (area : Area) (size left : ℕ) (log new_log : Lis
     → (octets : List ℕ) × (told new_log new ≡ tell (cut area size octets) (told log areas)) × Shortens size (octets_of (reads (told log areas)) area) octets
 told_uncut call area size left log new_log areas new le all noted same =
     let octets = octets_of areas area in
-    let read = read-told log areas area in
+    let read = read_told log areas area in
     (octets,
     (λ i. told (noted i) (same i))
     ∙ ap (λ a. told (cut_entry call area size left areas ∷ log) a) (sym (with_octets-same areas area))

@@ -1,6 +1,6 @@
 //! What the store asks of a disk: five calls on three areas, what they do and when they may fail.
 
-ghost use Rattle.std.specs.Prelude.{◌≡◌, ◌<◌, ◌≤◌, ◌+◌, ℕ, Bool, length, IfOk, OnOk};
+ghost use Rattle.std.specs.Prelude.{◌≡◌, ◌<◌, ◌≤◌, ◌+◌, ◌↔◌, ℕ, Bool, length, IfOk, IsTrue, OnOk};
 ghost use Rattle.std.specs.Bool.{OnTrue};
 ghost use Rattle.store_disk.specs.Disk.{CountsCall, IsWithin, Reads, octets_of};
 ghost use Rattle.store_disk.specs.Story.{Story, Cuts, Syncs, Writes, reads};
@@ -9,6 +9,13 @@ use crate::Area;
 
 /// The last place at which a write may end, in octets.
 pub const LAST_END: u64 = 1 << 62;
+
+/// Whether a write of so many octets would end past `LAST_END`.
+pub fn ends_late(at: u64, count: u64) -> bool
+    ensures { IsTrue result ↔ (LAST_END < at + count) }
+{
+    at > LAST_END || count > LAST_END - at
+}
 
 /// A call of a disk failed, and the disk has counted it.
 #[derive(Clone, Copy, Debug, PartialEq)]

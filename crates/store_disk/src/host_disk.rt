@@ -3,7 +3,7 @@
 ghost use Rattle.std.specs.Prelude.{◌≡◌, IfOk, IsErr, MatchResult};
 ghost use Rattle.store_disk.specs.Disk.{CountsCall};
 
-use crate::disk::LAST_END;
+use crate::disk::ends_late;
 use crate::host_file::HostFile;
 use crate::{Area, Disk, DiskFailed};
 use kn_base::{Memory, raised};
@@ -115,7 +115,7 @@ impl<R: Files<File = File>> Disk for HostDisk<R> {
     }
 
     fn write_at(&mut self, area: Area, at: u64, bytes: &[u8]) -> Result<(), DiskFailed> {
-        if at > LAST_END || bytes.len() as u64 > LAST_END - at {
+        if ends_late(at, bytes.len() as u64) {
             return self.count(Err(io::ErrorKind::FileTooLarge.into()));
         }
         let done = self.files.of(area).write(&self.rt, at, bytes);

@@ -5,7 +5,7 @@ ghost use Rattle.kn_base.specs.Calls.{IsFailing, one_more};
 ghost use Rattle.kn_base.specs.Count.{next_count};
 ghost use Rattle.store_disk.specs.Disk.{CountsCall, IsWithin};
 
-use crate::disk::LAST_END;
+use crate::disk::{LAST_END, ends_late};
 use crate::entry::{Deed, Entry};
 use crate::mem_area::{behind, covered, write_over};
 use crate::{Area, Disk, DiskFailed};
@@ -94,7 +94,8 @@ impl MemDisk {
 
 // What each call does, which isn't counted yet.
 impl MemDisk {
-    ghost use Rattle.store_disk.specs.Disk.{after_write, octets_of, with_octets};
+    ghost use Rattle.std.specs.Prelude.{true};
+    ghost use Rattle.store_disk.specs.Disk.{Reads, after_write, octets_of, with_octets};
     ghost use Rattle.store_disk.specs.MemDisk.{cut_entry, mem_areas, mem_calls, mem_faults, mem_log, write_entry};
 
     // Notes what a call did. After `Memory` it isn't noted.
@@ -150,6 +151,22 @@ impl MemDisk {
             Area::B => write_over(&mut self.b, at, bytes),
             Area::Pick => write_over(&mut self.pick, at, bytes),
         }
+    }
+
+    // How many octets a cut leaves.
+    fn left_by(&self, area: Area, size: usize, fails: bool) -> usize
+        ensures all { fails ≡ true → result ≡ length (octets_of (mem_areas self.now) area) }
+        ensures cut { fails ≡ false → result ≡ size }
+    {
+        if fails { self.area(area).len() } else { size }
+    }
+
+    // Fills `into` with the octets of an area from a place on.
+    fn copy_out(&self, area: Area, from: usize, into: &mut [u8])
+        requires { IsWithin (mem_areas self.now) area (from + length into.old) }
+        ensures { Reads (mem_areas self.now) area from into.new }
+    {
+        into.copy_from_slice(&self.area(area)[from..from + into.len()]);
     }
 
     // Cuts an area.
@@ -215,7 +232,7 @@ impl MemDisk {
         ensures calls { mem_calls self.new ≡ mem_calls self.old }
         ensures faults { mem_faults self.new ≡ mem_faults self.old }
     {
-        let left = if fails { self.area(area).len() } else { size };
+        let left = self.left_by(area, size, fails);
         let Ok(()) = self.note_cut(call, area, size, left) else {
             return Err(DiskFailed);
         };
@@ -226,13 +243,17 @@ impl MemDisk {
         Ok(())
     }
 
-    // A sync. It fails where it can't be noted.
-    fn settle(&mut self, call: u64, area: Area) -> Result<(), DiskFailed>
+    // A sync, which may be one that fails. It fails too where it can't be noted.
+    fn settle(&mut self, call: u64, area: Area, fails: bool) -> Result<(), DiskFailed>
         ensures synced { Syncs area result (mem_story self.old) (mem_story self.new) }
+        ensures due { OnOk result (fails ≡ false) }
         ensures areas { mem_areas self.new ≡ mem_areas self.old }
         ensures calls { mem_calls self.new ≡ mem_calls self.old }
         ensures faults { mem_faults self.new ≡ mem_faults self.old }
     {
+        if fails {
+            return Err(DiskFailed);
+        }
         let deed = Deed::Synced;
         match self.note(Entry { call, area, deed }) {
             Ok(()) => Ok(()),
@@ -258,6 +279,7 @@ impl MemDisk {
     // Counts a fault where a call failed.
     fn answered(&mut self, done: Result<(), DiskFailed>) -> Result<(), DiskFailed>
         ensures done { result ≡ done }
+        ensures kept { mem_faults self.old ≤ mem_faults self.new }
         ensures failed { OnErr result (mem_faults self.new ≡ next_count (mem_faults self.old)) }
         ensures ok { OnOk result (mem_faults self.new ≡ mem_faults self.old) }
         ensures calls { mem_calls self.new ≡ mem_calls self.old }
@@ -271,11 +293,12 @@ impl MemDisk {
     }
 }
 
+#[tactic(auto, using(crate::proofs::Told::reads_told))]
 impl Disk for MemDisk {
     ghost use Rattle.std.specs.Prelude.{◌<◌, true};
     ghost use Rattle.store_disk.specs.Disk.{Reads, octets_of};
     ghost use Rattle.store_disk.specs.MemDisk.{mem_areas, mem_calls, mem_faults, mem_story};
-    ghost use Rattle.store_disk.specs.Story.{Cuts, Syncs, Writes};
+    ghost use Rattle.store_disk.specs.Story.{Cuts, Syncs, Writes, reads};
 
     ghost tells = { true };
 
@@ -288,7 +311,7 @@ impl Disk for MemDisk {
     fn size(&mut self, area: Area) -> Result<u64, DiskFailed>
         ensures counted { CountsCall (mem_calls self.old).made (mem_calls self.new).made (mem_faults self.old) (mem_faults self.new) result }
         ensures kept { mem_story self.new ≡ mem_story self.old }
-        ensures size { IfOk result (λ size. size ≡ length (octets_of (mem_areas self.old) area)) }
+        ensures size { IfOk result (λ size. size ≡ length (octets_of (reads (mem_story self.old)) area)) }
         ensures areas { mem_areas self.new ≡ mem_areas self.old }
         ensures fails { IsErr result ↔ IsFailing (mem_calls self.old) }
         ensures calls { mem_calls self.new ≡ one_more (mem_calls self.old) }
@@ -298,24 +321,23 @@ impl Disk for MemDisk {
     }
 
     fn read(&mut self, area: Area, at: u64, into: &mut [u8]) -> Result<(), DiskFailed>
-        requires { IsWithin (mem_areas self.old) area (at + length into.old) }
+        requires { IsWithin (reads (mem_story self.old)) area (at + length into.old) }
         ensures counted { CountsCall (mem_calls self.old).made (mem_calls self.new).made (mem_faults self.old) (mem_faults self.new) result }
         ensures kept { mem_story self.new ≡ mem_story self.old }
-        ensures read { OnOk result (Reads (mem_areas self.old) area at into.new) }
+        ensures read { OnOk result (Reads (reads (mem_story self.old)) area at into.new) }
         ensures areas { mem_areas self.new ≡ mem_areas self.old }
         ensures fails { IsErr result ↔ IsFailing (mem_calls self.old) }
         ensures calls { mem_calls self.new ≡ one_more (mem_calls self.old) }
     {
         self.begin()?;
-        let from = at as usize;
-        into.copy_from_slice(&self.area(area)[from..from + into.len()]);
+        self.copy_out(area, at as usize, into);
         Ok(())
     }
 
     /// A write whose number is failing or whose end passes `LAST_END` fails. After a fault the area holds what it held.
     fn write_at(&mut self, area: Area, at: u64, bytes: &[u8]) -> Result<(), DiskFailed>
         requires some { 0 < length bytes.now }
-        requires inside { IsWithin (mem_areas self.old) area at }
+        requires inside { IsWithin (reads (mem_story self.old)) area at }
         ensures counted { CountsCall (mem_calls self.old).made (mem_calls self.new).made (mem_faults self.old) (mem_faults self.new) result }
         ensures written { Writes area at bytes.now result (mem_story self.old) (mem_story self.new) }
         ensures end { OnOk result (at + length bytes.now ≤ LAST_END) }
@@ -325,14 +347,14 @@ impl Disk for MemDisk {
     {
         let call = self.calls.made();
         let is_failing = self.calls.next_fails();
-        let fails = is_failing || at + bytes.len() as u64 > LAST_END;
+        let fails = is_failing || ends_late(at, bytes.len() as u64);
         let done = self.write(call, area, at as usize, bytes, fails);
         self.answered(done)
     }
 
     /// A cut whose number is failing fails. After a fault the area holds what it held.
     fn cut(&mut self, area: Area, size: u64) -> Result<(), DiskFailed>
-        requires { IsWithin (mem_areas self.old) area size }
+        requires { IsWithin (reads (mem_story self.old)) area size }
         ensures counted { CountsCall (mem_calls self.old).made (mem_calls self.new).made (mem_faults self.old) (mem_faults self.new) result }
         ensures cut { Cuts area size result (mem_story self.old) (mem_story self.new) }
         ensures uncut { OnErr result (mem_areas self.new ≡ mem_areas self.old) }
@@ -353,8 +375,8 @@ impl Disk for MemDisk {
         ensures calls { mem_calls self.new ≡ one_more (mem_calls self.old) }
     {
         let call = self.calls.made();
-        self.begin()?;
-        let done = self.settle(call, area);
+        let fails = self.calls.next_fails();
+        let done = self.settle(call, area, fails);
         self.answered(done)
     }
 }
