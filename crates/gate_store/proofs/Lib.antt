@@ -6,5 +6,6 @@ pub mod Loading
 pub mod Recording
 pub mod Refusals
 pub mod Reopened
+pub mod Standing
 pub mod Told
 pub mod Turns
