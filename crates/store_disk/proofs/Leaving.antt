@@ -10,17 +10,17 @@ use Rattle.store_disk.specs.declared.disk.DiskFailed.{DiskFailed}
 use Rattle.store_disk.proofs.Pasts.{synced_old}
 
 -- a story that goes on from another
-abbrev after : Story → List Act → Story
+abbrev pub after : Story → List Act → Story
 after story acts = record { start = story.start; acts = acts ++ story.acts }
 
 -- the moment that a story has reached is the story
-up_to_now : (story : Story) (moment : ℕ) → moment_of story ≤ moment → up_to moment story ≡ story
+pub up_to_now : (story : Story) (moment : ℕ) → moment_of story ≤ moment → up_to moment story ≡ story
 up_to_now story moment le =
     let none : length story.acts - moment ≡ 0 = omega (arith, le) in
     ap (λ n. record { start = story.start; acts = drop n story.acts }) none
 
 -- what it was then doesn't change as it goes on
-up_to_before : (story : Story) (acts : List Act) (moment : ℕ) → moment ≤ moment_of story → up_to moment (after story acts) ≡ up_to moment story
+pub up_to_before : (story : Story) (acts : List Act) (moment : ℕ) → moment ≤ moment_of story → up_to moment (after story acts) ≡ up_to moment story
 up_to_before story acts moment le =
     let left : length (acts ++ story.acts) - moment ≡ length acts + (length story.acts - moment) = omega (arith, le, length-append acts story.acts) in
     ap (λ n. record { start = story.start; acts = drop n (acts ++ story.acts) }) left

@@ -1,3 +1,4 @@
 pub mod Leaving
 pub mod Pasts
+pub mod Stops
 pub mod Told

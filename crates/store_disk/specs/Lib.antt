@@ -1,4 +1,5 @@
 pub mod Disk
 pub mod Doubt
 pub mod MemDisk
+pub mod Stop
 pub mod Story

@@ -14,6 +14,7 @@ mod host_disk;
 mod host_file;
 mod mem_area;
 mod mem_disk;
+mod mem_stop;
 
 pub use area::Area;
 pub use disk::{Disk, DiskFailed, LAST_END};

@@ -8,6 +8,7 @@ ghost use Rattle.store_disk.specs.Disk.{CountsCall, IsWithin};
 use crate::disk::{LAST_END, ends_late};
 use crate::entry::{Deed, Entry};
 use crate::mem_area::{behind, covered, write_over};
+use crate::mem_stop::{before_all, entries_up_to, left_by};
 use crate::{Area, Disk, DiskFailed};
 use kn_base::{MemCalls, Memory, Octets, raised};
 use std::alloc::Global;
@@ -89,6 +90,68 @@ impl MemDisk {
         ensures { result ≡ mem_faults self.now }
     {
         self.faults
+    }
+}
+
+impl MemDisk {
+    ghost use Rattle.store_disk.specs.Disk.{octets_of};
+    ghost use Rattle.store_disk.specs.MemDisk.{mem_areas, mem_calls, mem_faults, mem_story};
+    ghost use Rattle.std.specs.Prelude.{ℕ, []};
+    ghost use Rattle.store_disk.specs.declared.area.Area.{Area};
+    ghost use Rattle.store_disk.specs.Stop.{stop_choice, stop_moment, stopped_octets};
+    ghost use Rattle.store_disk.specs.Story.{IsImage, IsImageSince, past_of, untold, up_to};
+
+    /// The disk after a stop in the call of this number, as one on which no call was made. Of what that call and those before it left
+    /// in doubt, choice 0 keeps the old octets and the old length, 1 takes the new ones, and any other octet stands at each place in
+    /// doubt, in the new length. Where no such call was made it is the disk as it reads.
+    pub fn stopped(&self, alloc: Global, call: u64, choice: u8) -> Result<MemDisk, Memory>
+        ensures octets { IfOk result (λ stopped. (area : Area) → octets_of (mem_areas stopped) area ≡ stopped_octets (past_of (up_to (stop_moment call self.now) (mem_story self.now)) area) (stop_choice call choice self.now)) }
+        ensures image { IfOk result (λ stopped. IsImage (up_to (stop_moment call self.now) (mem_story self.now)) (mem_areas stopped)) }
+        ensures since { IfOk result (λ stopped. (since : ℕ) → since ≤ stop_moment call self.now → IsImageSince since (mem_story self.now) (mem_areas stopped)) }
+        ensures unmade { (mem_calls self.now).made ≤ call → IfOk result (λ stopped. mem_areas stopped ≡ mem_areas self.now) }
+        ensures story { IfOk result (λ stopped. mem_story stopped ≡ untold (mem_areas stopped)) }
+        ensures calls { IfOk result (λ stopped. mem_calls stopped ≡ record { failing = []; made = 0 }) }
+        ensures faults { IfOk result (λ stopped. mem_faults stopped ≡ 0) }
+    {
+        let (moment, choice) = self.stop(call, choice);
+        self.stopped_at(alloc, moment, choice)
+    }
+
+    // The disk after a stop at a moment.
+    fn stopped_at(&self, alloc: Global, moment: usize, choice: u8) -> Result<MemDisk, Memory>
+        requires { moment ≤ length self.now.log.items }
+        ensures octets { IfOk result (λ stopped. (area : Area) → octets_of (mem_areas stopped) area ≡ stopped_octets (past_of (up_to moment (mem_story self.now)) area) choice) }
+        ensures story { IfOk result (λ stopped. mem_story stopped ≡ untold (mem_areas stopped)) }
+        ensures calls { IfOk result (λ stopped. mem_calls stopped ≡ record { failing = []; made = 0 }) }
+        ensures faults { IfOk result (λ stopped. mem_faults stopped ≡ 0) }
+    {
+        let a = self.left(alloc, Area::A, moment, choice)?;
+        let b = self.left(alloc, Area::B, moment, choice)?;
+        let pick = self.left(alloc, Area::Pick, moment, choice)?;
+        Ok(MemDisk::new(alloc, a, b, pick, Vec::new(alloc)))
+    }
+
+    // The moment at the end of a call, and what is chosen there.
+    fn stop(&self, call: u64, choice: u8) -> (usize, u8)
+        ensures moment { result.0 ≡ stop_moment call self.now }
+        ensures choice { result.1 ≡ stop_choice call choice self.now }
+        ensures reached { result.0 ≤ length self.now.log.items }
+    {
+        if call < self.calls.made() {
+            (entries_up_to(&self.log, call), choice)
+        } else {
+            (self.log.len(), 1)
+        }
+    }
+
+    // What a stop at a moment leaves of an area.
+    fn left(&self, alloc: Global, area: Area, moment: usize, choice: u8) -> Result<Octets, Memory>
+        requires { moment ≤ length self.now.log.items }
+        ensures { IfOk result (λ left. left ≡ stopped_octets (past_of (up_to moment (mem_story self.now)) area) choice) }
+    {
+        let (log, later) = self.log.as_slice().split_at(moment);
+        let now = Octets::from_slice(alloc, self.area(area))?;
+        left_by(alloc, log, area, before_all(alloc, later, area, now)?, choice)
     }
 }
 
