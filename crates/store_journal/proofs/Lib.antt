@@ -1,5 +1,4 @@
+pub mod Keeping
 pub mod Readers
-pub mod Kept
-pub mod Reopened
 pub mod Texts
 pub mod Units

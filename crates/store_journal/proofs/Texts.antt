@@ -12,12 +12,12 @@ use Rattle.exact_octets.specs.declared.read_fault.ReadFault.{ReadFault}
 use Rattle.exact_octets.specs.declared.read_fault.ReadFault.TheVariants as faults
 use Rattle.exact_octets.proofs.Readers.{AreOctets, AreOctets-rest, Answers}
 use Rattle.exact_octets.proofs.Streams.{many_again, many_reads}
-use Rattle.store_disk.specs.Disk.{Areas, octets_of, with_octets, written, after_write}
-use Rattle.store_journal.specs.Area.{unborn, born, foreign, header, header_at, unit, unit_at, units, area_text, gate_place, reading, reading_of, stands, standing, picked, begins_closed, behind_units, payloads_in, IsPayload, IsText, IsStored}
+use Rattle.store_disk.specs.Disk.{Areas, octets_of}
+use Rattle.store_journal.specs.Area.{unborn, born, foreign, header, header_at, unit, unit_at, units, area_text, gate_place, reading, reading_of, stands, standing, picked, begins_closed, behind_units, payloads_in, IsPayload, IsText}
 use Rattle.store_disk.specs.declared.area.Area.{Area}
 use Rattle.store_disk.specs.declared.area.Area.TheVariants.{A, B, Pick}
 use Rattle.store_journal.specs.Journal.{IsCause, OpensAs}
-use Rattle.store_journal.specs.Opening.{IsMisfit, IsMisfitOf, IsRead, after_birth}
+use Rattle.store_journal.specs.Opening.{IsMisfit, IsMisfitOf, IsRead}
 use Rattle.store_journal.specs.declared.fault.OpenFault.{OpenFault}
 use Rattle.store_journal.specs.declared.fault.OpenFault.TheVariants.{Foreign, Disk, Memory}
 use Rattle.store_journal.proofs.Readers.{header_reads, unit_reads}
@@ -40,10 +40,6 @@ reading_is area octets birth payloads is =
     ∙ ap (λ (found : List (List ℕ) × List ℕ). cond (begins_closed found.1) (born birth area found.0) (foreign area (length octets - length found.1))) read
     ∙ ap (λ b. cond b (born birth area payloads) (foreign area (length octets - length (is.gate ∷ is.behind)))) (ap not is.closed)
 
--- areas that hold payloads stand for them
-pub stands_stored : (areas : Areas) (area : Area) (birth : ℕ) (payloads : List (List ℕ)) → IsStored areas area birth payloads → stands areas ≡ born birth area payloads
-stands_stored areas area birth payloads is = ap (standing areas) is.picks ∙ reading_is area (octets_of areas area) birth payloads is.text
-
 -- how long the front of a text is
 pub length-front : (birth : ℕ) (payloads : List (List ℕ)) → length (header birth ++ units payloads) ≡ gate_place payloads
 length-front birth payloads = length-append (header birth) (units payloads)
@@ -53,51 +49,9 @@ pub place_within : (octets : List ℕ) (birth : ℕ) (payloads : List (List ℕ)
 place_within octets birth payloads is =
     omega (arith, ap length is.text, length-append (area_text birth payloads is.gate) is.behind, length-append (header birth ++ units payloads) (is.gate ∷ []), length-front birth payloads)
 
-regroup : (h u p : List ℕ) → (h ++ u) ++ (p ++ 0 ∷ []) ≡ (h ++ (u ++ p)) ++ 0 ∷ []
-regroup h u p = simp append_assoc
-
--- a text with one more payload written over its closed gate
-pub text_more : (octets : List ℕ) (birth : ℕ) (payloads : List (List ℕ)) (payload : List ℕ) → IsPayload payload → IsText octets birth payloads → IsText (written octets (gate_place payloads) (unit payload ++ 0 ∷ [])) birth (payloads ++ payload ∷ [])
-text_more octets birth payloads payload size is =
-    let place = gate_place payloads in
-    let bytes = unit payload ++ 0 ∷ [] in
-    let whole : octets ≡ (header birth ++ units payloads) ++ (is.gate ∷ is.behind) = is.text ∙ append_assoc (header birth ++ units payloads) (is.gate ∷ []) is.behind in
-    let front : take place octets ≡ header birth ++ units payloads = ap (take place) whole ∙ take_at (header birth ++ units payloads) (is.gate ∷ is.behind) place (length-front birth payloads) in
-    let more : units (payloads ++ payload ∷ []) ≡ units payloads ++ unit payload = flat_map-append unit payloads (payload ∷ []) ∙ ap (λ l. units payloads ++ l) (append-nil (unit payload)) in
-    record {
-      gate = 0;
-      behind = drop (place + length bytes) octets;
-      closed = refl;
-      small = is.small;
-      sizes = All-append IsPayload payloads (payload ∷ []) is.sizes (All-from_recursion IsPayload (payload ∷ []) (size, tt));
-      text =
-          ap (λ l. l ++ bytes ++ drop (place + length bytes) octets) front
-          ∙ ap (λ l. l ++ drop (place + length bytes) octets) (regroup (header birth) (units payloads) (unit payload))
-          ∙ sym (ap (λ l. ((header birth ++ l) ++ 0 ∷ []) ++ drop (place + length bytes) octets) more);
-    }
-
--- what an area holds after a write to it
-octets_of-with : (areas : Areas) (area : Area) (octets : List ℕ) → octets_of (with_octets areas area octets) area ≡ octets
-octets_of-with areas A octets = refl
-octets_of-with areas B octets = refl
-octets_of-with areas Pick octets = refl
-
-never_pick : (b : Bool) → Some (cond b B A) ≡ Some Pick → ⊥
+pub never_pick : (b : Bool) → Some (cond b B A) ≡ Some Pick → ⊥
 never_pick true is = cc
 never_pick false is = cc
-
-picks_same : (areas : Areas) (area : Area) (pick octets : List ℕ) → picked pick ≡ Some area → pick ≡ areas.pick → picked (with_octets areas area octets).pick ≡ Some area
-picks_same areas A pick octets is same = subst (λ p. picked p ≡ Some A) same is
-picks_same areas B pick octets is same = subst (λ p. picked p ≡ Some B) same is
-picks_same areas Pick [] octets is same = absurd (cc)
-picks_same areas Pick (first ∷ rest) octets is same = absurd (never_pick (eqb first 2) is)
-
--- areas after an append to the picked one
-pub stored_more : (areas : Areas) (area : Area) (birth : ℕ) (payloads : List (List ℕ)) (payload : List ℕ) → IsPayload payload → IsStored areas area birth payloads → IsStored (after_write area (gate_place payloads) (unit payload ++ 0 ∷ []) areas) area birth (payloads ++ payload ∷ [])
-stored_more areas area birth payloads payload size is = record {
-  picks = picks_same areas area areas.pick (written (octets_of areas area) (gate_place payloads) (unit payload ++ 0 ∷ [])) is.picks refl;
-  text = subst (λ l. IsText l birth (payloads ++ payload ∷ [])) (sym (octets_of-with areas area (written (octets_of areas area) (gate_place payloads) (unit payload ++ 0 ∷ [])))) (text_more (octets_of areas area) birth payloads payload size is.text);
-}
 
 -- what is read of octets that begin with a header
 pub header_read : (octets : List ℕ) (birth : ℕ) (rest : List ℕ) → AreOctets octets → header_at octets ≡ Ok (birth, rest) → IsRead octets birth rest
@@ -153,17 +107,6 @@ pub end_read : (octets : List ℕ) (birth : ℕ) (rest : List ℕ) → IsRead oc
 end_read octets birth rest read =
     omega (arith, ap length read.spelled, length-append (header birth) (units (payloads_in rest) ++ behind_units rest), length-append (units (payloads_in rest)) (behind_units rest))
 
--- an area that holds a text stands for it
-pub stored_read : (tells : Bool) (areas : Areas) (area : Area) (octets : List ℕ) (birth : ℕ) (payloads : List (List ℕ)) → IsText octets birth payloads → OnTrue tells (picked areas.pick ≡ Some area) → OnTrue tells (octets ≡ octets_of areas area)
-    → OnTrue tells (IsStored areas area birth payloads)
-stored_read true areas area octets birth payloads text picks read = record { picks = picks; text = subst (λ l. IsText l birth payloads) read text }
-stored_read false areas area octets birth payloads text picks read = tt
-
--- what an opening finds in such an area
-pub opens_read : (tells : Bool) (areas : Areas) (area : Area) (new birth : ℕ) (payloads : List (List ℕ)) → OnTrue tells (IsStored areas area birth payloads) → OnTrue tells (OpensAs (stands areas) new birth area payloads)
-opens_read true areas area new birth payloads stored = subst (λ s. OpensAs s new birth area payloads) (sym (stands_stored areas area birth payloads stored)) (refl, refl, refl)
-opens_read false areas area new birth payloads stored = tt
-
 -- where the picked area is no text, it is foreign
 pub foreign_read : (tells : Bool) (areas : Areas) (area : Area) (octets : List ℕ) (fault : OpenFault) → IsMisfit area octets fault → OnTrue tells (picked areas.pick ≡ Some area) → OnTrue tells (octets ≡ octets_of areas area)
     → OnTrue tells (IsCause areas fault)
@@ -175,15 +118,6 @@ foreign_read false areas area octets fault is picks read = tt
 picks_none : (pick : List ℕ) → picked pick ≡ None → pick ≡ []
 picks_none [] is = refl
 picks_none (first ∷ rest) is = cc
-
--- the areas after a birth hold no payloads
-pub stored_birth : (tells : Bool) (areas now : Areas) (birth : ℕ) → birth < 2 ^ 64 → OnTrue tells (picked areas.pick ≡ None) → OnTrue tells (now ≡ after_birth birth areas) → OnTrue tells (IsStored now A birth [])
-stored_birth true areas now birth small unpicked written =
-    subst (λ (a : Areas). IsStored a A birth []) (sym written) (record {
-      picks = ap (λ p. picked ((1 ∷ []) ++ drop 1 p)) (picks_none areas.pick unpicked);
-      text = record { gate = 0; behind = drop 17 areas.a; closed = refl; small = small; sizes = λ k d below. absurd (omega arith); text = refl };
-    })
-stored_birth false areas now birth small unpicked written = tt
 
 -- an opening finds no payloads in a store that is not born
 pub opens_unborn : (tells : Bool) (areas : Areas) (birth : ℕ) → OnTrue tells (stands areas ≡ unborn) → OnTrue tells (OpensAs (stands areas) birth birth A [])

@@ -6,8 +6,8 @@ use Rattle.exact_octets.specs.declared.read_fault.ReadFault.TheVariants as fault
 use Rattle.exact_octets.specs.Reading.{many}
 use Rattle.store_disk.specs.Disk.{Areas, octets_of}
 use Rattle.store_disk.specs.Story.{Past, Story, at_rest, past_of, reads}
-use Rattle.store_journal.specs.Area.{born, foreign, unborn, stands, header, header_at, reading, fault_place, gate_place, unit, units, unit_at, area_text, payloads_in, behind_units, IsPayload}
-use Rattle.store_journal.specs.Keeping.{IsKeptBy, Stays}
+use Rattle.store_journal.specs.Area.{born, foreign, unborn, stands, header, header_at, reading, fault_place, gate_place, unit, units, unit_at, payloads_in, behind_units, IsPayload}
+use Rattle.store_journal.specs.Keeping.{IsKeptBy, IsSure}
 use Rattle.store_journal.specs.Journal.{OpensAs}
 use Rattle.store_disk.specs.declared.area.Area.{Area}
 use Rattle.store_disk.specs.declared.area.Area.TheVariants.{A, B, Pick}
@@ -78,10 +78,12 @@ pub record IsBare (story : Story) : Type 0 where
   pub b : IsSmall 17 (past_of story B)
   pub pick : IsSmall 0 (past_of story Pick)
 
--- Before that both areas keep no payloads, so that it doesn't matter which one is picked.
+-- And then both areas keep a store without payloads, so that it doesn't matter which of them a stop picks.
 pub record AreFresh (birth : ℕ) (story : Story) : Type 0 where
-  pub a : Stays 0 (area_text birth [] 0) (past_of story A)
-  pub b : Stays 0 (area_text birth [] 0) (past_of story B)
+  pub a : IsSure birth [] (past_of story A)
+  pub b : IsSure birth [] (past_of story B)
+  pub a_small : IsSmall 17 (past_of story A)
+  pub b_small : IsSmall 17 (past_of story B)
 
 -- areas are a store that isn't born, or one that was born without payloads
 abbrev pub IsUnbornOrFresh : ℕ → Areas → Type 0
