@@ -24,9 +24,9 @@ done_of-append (deed ∷ xs) ys = ap (λ es. entries_of deed ++ es) (done_of-app
 
 -- the entries that deeds ask for, where they were accepted
 accepted : Bool → List Deed → List Recorded
-accepted yes deeds = if yes then map entry_of deeds else []
+accepted is_so deeds = if is_so then map entry_of deeds else []
 
-none_accepted : (yes : Bool) → [] ≡ accepted yes []
+none_accepted : (is_so : Bool) → [] ≡ accepted is_so []
 none_accepted true = refl
 none_accepted false = refl
 
