@@ -25,6 +25,10 @@ mem_calls disk = disk.calls
 abbrev pub mem_faults : MemDisk → ℕ
 mem_faults disk = disk.faults
 
+-- how many of them found no memory for their entry in the log
+abbrev pub mem_starved : MemDisk → ℕ
+mem_starved disk = disk.starved
+
 -- the octets of an area before a deed, from those behind it
 abbrev pub octets_before : Deed → List ℕ → List ℕ
 octets_before (Wrote at count was) octets = take at octets ++ was ++ drop (at + count) octets

@@ -138,17 +138,24 @@ pub record Shortens (size : ℕ) (old new : List ℕ) : Type 0 where
   pub front : new ≡ take (length new) old
   pub no_shorter : size ≤ length new
 
--- what a write makes of a story, by its answer: a write that failed may have done nothing at all
+-- a write that failed is told with what it left
+abbrev pub FailsToWrite : Area → ℕ → List ℕ → Story → Story → Type 0
+FailsToWrite area at bytes old new =
+    (octets : List ℕ) × (new ≡ tell (wrote area at (length bytes) octets) old) × Tears at (length bytes) (octets_of (reads old) area) octets
+
+-- what a write makes of a story, by its answer: one that failed may have done nothing at all
 abbrev pub Writes : Area → ℕ → List ℕ → {T : Type 0} → Result T DiskFailed → Story → Story → Type 0
 Writes area at bytes (Ok done) old new = new ≡ tell (wrote area at (length bytes) (written (octets_of (reads old) area) at bytes)) old
-Writes area at bytes (Err failed) old new =
-    (new ≡ old) ⊎ ((octets : List ℕ) × (new ≡ tell (wrote area at (length bytes) octets) old) × Tears at (length bytes) (octets_of (reads old) area) octets)
+Writes area at bytes (Err failed) old new = (new ≡ old) ⊎ FailsToWrite area at bytes old new
 
--- what a cut makes of it: a cut that failed may have done nothing either
+-- a cut that failed is told with what it left
+abbrev pub FailsToCut : Area → ℕ → Story → Story → Type 0
+FailsToCut area size old new = (octets : List ℕ) × (new ≡ tell (cut area size octets) old) × Shortens size (octets_of (reads old) area) octets
+
+-- what a cut makes of it
 abbrev pub Cuts : Area → ℕ → {T : Type 0} → Result T DiskFailed → Story → Story → Type 0
 Cuts area size (Ok done) old new = new ≡ tell (cut area size (take size (octets_of (reads old) area))) old
-Cuts area size (Err failed) old new =
-    (new ≡ old) ⊎ ((octets : List ℕ) × (new ≡ tell (cut area size octets) old) × Shortens size (octets_of (reads old) area) octets)
+Cuts area size (Err failed) old new = (new ≡ old) ⊎ FailsToCut area size old new
 
 -- what a sync makes of it
 abbrev pub Syncs : Area → {T : Type 0} → Result T DiskFailed → Story → Story → Type 0

@@ -14,7 +14,8 @@ use kn_base::{MemCalls, Memory, Octets, raised};
 use std::alloc::Global;
 
 /// Three areas in memory. The calls whose numbers, from 0, are in the list of failing ones fail, and leave what the
-/// areas hold. Want of memory is a counted fault.
+/// areas hold. Want of memory is a counted fault. A write or a cut that failed is told as one that failed, unless it found no memory
+/// for its entry in the log.
 #[derive(Drop)]
 pub struct MemDisk {
     alloc: Global,
@@ -24,12 +25,13 @@ pub struct MemDisk {
     log: Vec<Entry>,
     calls: MemCalls,
     faults: u64,
+    starved: u64,
 }
 
 impl MemDisk {
     ghost use Rattle.store_disk.specs.Disk.{octets_of};
     ghost use Rattle.store_disk.specs.MemDisk.{mem_areas, mem_calls, mem_faults, mem_story};
-    ghost use Rattle.store_disk.specs.Story.{untold};
+    ghost use Rattle.store_disk.specs.Story.{reads, untold};
 
     /// A disk that holds these octets, on which no call was made. It takes no memory.
     pub fn new(alloc: Global, a: Octets, b: Octets, pick: Octets, failing: Vec<u64>) -> MemDisk
@@ -46,6 +48,7 @@ impl MemDisk {
             log: Vec::new(alloc),
             calls: MemCalls::new(failing),
             faults: 0,
+            starved: 0,
         }
     }
 
@@ -64,12 +67,15 @@ impl MemDisk {
             log: Vec::new(self.alloc),
             calls: self.calls.anew(),
             faults: 0,
+            starved: 0,
         }
     }
 
     /// What an area holds.
+    #[tactic(auto, using(crate::proofs::Told::read_told))]
     pub fn area(&self, area: Area) -> &[u8]
-        ensures { result.now ≡ octets_of (mem_areas self.now) area }
+        ensures held { result.now ≡ octets_of (mem_areas self.now) area }
+        ensures read { result.now ≡ octets_of (reads (mem_story self.now)) area }
     {
         match area {
             Area::A => self.a.as_slice(),
@@ -157,19 +163,38 @@ impl MemDisk {
 
 // What each call does, which isn't counted yet.
 impl MemDisk {
-    ghost use Rattle.std.specs.Prelude.{true};
+    ghost use Rattle.std.specs.Prelude.{true, IsOk};
     ghost use Rattle.store_disk.specs.Disk.{Reads, after_write, octets_of, with_octets};
-    ghost use Rattle.store_disk.specs.MemDisk.{cut_entry, mem_areas, mem_calls, mem_faults, mem_log, write_entry};
+    ghost use Rattle.store_disk.specs.MemDisk.{cut_entry, mem_areas, mem_calls, mem_faults, mem_log, mem_starved, write_entry};
+    ghost use Rattle.kn_base.specs.Count.{Rose};
 
-    // Notes what a call did. After `Memory` it isn't noted.
+    // Notes what a call did. After `Memory`, which is counted, it isn't noted.
     fn note(&mut self, entry: Entry) -> Result<(), Memory>
         ensures ok { OnOk result (mem_log self.new ≡ entry ∷ mem_log self.old) }
         ensures err { OnErr result (mem_log self.new ≡ mem_log self.old) }
+        ensures starved { OnErr result (Rose (mem_starved self.old) (mem_starved self.new)) }
         ensures areas { mem_areas self.new ≡ mem_areas self.old }
         ensures calls { mem_calls self.new ≡ mem_calls self.old }
         ensures faults { mem_faults self.new ≡ mem_faults self.old }
     {
-        Ok(self.log.push(entry)?)
+        let done = self.log.push(entry).is_ok();
+        self.noted(done)
+    }
+
+    // Counts want of memory where an entry isn't noted.
+    fn noted(&mut self, done: bool) -> Result<(), Memory>
+        ensures done { IsOk result ↔ (done ≡ true) }
+        ensures starved { OnErr result (Rose (mem_starved self.old) (mem_starved self.new)) }
+        ensures log { mem_log self.new ≡ mem_log self.old }
+        ensures areas { mem_areas self.new ≡ mem_areas self.old }
+        ensures calls { mem_calls self.new ≡ mem_calls self.old }
+        ensures faults { mem_faults self.new ≡ mem_faults self.old }
+    {
+        if done {
+            return Ok(());
+        }
+        self.starved = raised(self.starved);
+        Err(Memory)
     }
 
     // Notes a write, and what stands in its range.
@@ -177,13 +202,18 @@ impl MemDisk {
         requires { IsWithin (mem_areas self.old) area at }
         ensures ok { OnOk result (mem_log self.new ≡ write_entry call area at count (mem_areas self.old) ∷ mem_log self.old) }
         ensures err { OnErr result (mem_log self.new ≡ mem_log self.old) }
+        ensures starved { OnErr result (Rose (mem_starved self.old) (mem_starved self.new)) }
         ensures areas { mem_areas self.new ≡ mem_areas self.old }
         ensures calls { mem_calls self.new ≡ mem_calls self.old }
         ensures faults { mem_faults self.new ≡ mem_faults self.old }
     {
-        let was = covered(self.alloc, self.area(area), at, count)?;
-        let deed = Deed::Wrote { at, count, was };
-        self.note(Entry { call, area, deed })
+        match covered(self.alloc, self.area(area), at, count) {
+            Ok(was) => {
+                let deed = Deed::Wrote { at, count, was };
+                self.note(Entry { call, area, deed })
+            }
+            Err(Memory) => self.noted(false),
+        }
     }
 
     // Notes a cut that was to leave so many octets, and what stands behind those that it leaves.
@@ -191,13 +221,18 @@ impl MemDisk {
         requires { IsWithin (mem_areas self.old) area left }
         ensures ok { OnOk result (mem_log self.new ≡ cut_entry call area size left (mem_areas self.old) ∷ mem_log self.old) }
         ensures err { OnErr result (mem_log self.new ≡ mem_log self.old) }
+        ensures starved { OnErr result (Rose (mem_starved self.old) (mem_starved self.new)) }
         ensures areas { mem_areas self.new ≡ mem_areas self.old }
         ensures calls { mem_calls self.new ≡ mem_calls self.old }
         ensures faults { mem_faults self.new ≡ mem_faults self.old }
     {
-        let was = behind(self.alloc, self.area(area), left)?;
-        let deed = Deed::Cut { size, was };
-        self.note(Entry { call, area, deed })
+        match behind(self.alloc, self.area(area), left) {
+            Ok(was) => {
+                let deed = Deed::Cut { size, was };
+                self.note(Entry { call, area, deed })
+            }
+            Err(Memory) => self.noted(false),
+        }
     }
 
     // Writes to an area. After `Memory` nothing has changed.
@@ -249,8 +284,10 @@ impl MemDisk {
 
 // The calls, before their faults are counted.
 impl MemDisk {
-    ghost use Rattle.store_disk.specs.MemDisk.{mem_areas, mem_calls, mem_faults, mem_story};
-    ghost use Rattle.store_disk.specs.Story.{Cuts, Syncs, Writes};
+    ghost use Rattle.std.specs.Prelude.{◌⊎◌};
+    ghost use Rattle.store_disk.specs.MemDisk.{mem_areas, mem_calls, mem_faults, mem_starved, mem_story};
+    ghost use Rattle.kn_base.specs.Count.{Rose};
+    ghost use Rattle.store_disk.specs.Story.{Cuts, FailsToCut, FailsToWrite, Syncs, Writes};
 
     // A write, which may be one that fails. Whatever fails leaves what the areas hold.
     fn write(
@@ -263,6 +300,7 @@ impl MemDisk {
     ) -> Result<(), DiskFailed>
         requires { IsWithin (mem_areas self.old) area at }
         ensures written { Writes area at bytes.now result (mem_story self.old) (mem_story self.new) }
+        ensures told { OnErr result (FailsToWrite area at bytes.now (mem_story self.old) (mem_story self.new) ⊎ Rose (mem_starved self.old) (mem_starved self.new)) }
         ensures due { OnOk result (fails ≡ false) }
         ensures unwritten { OnErr result (mem_areas self.new ≡ mem_areas self.old) }
         ensures calls { mem_calls self.new ≡ mem_calls self.old }
@@ -290,6 +328,7 @@ impl MemDisk {
     ) -> Result<(), DiskFailed>
         requires { IsWithin (mem_areas self.old) area size }
         ensures cut { Cuts area size result (mem_story self.old) (mem_story self.new) }
+        ensures told { OnErr result (FailsToCut area size (mem_story self.old) (mem_story self.new) ⊎ Rose (mem_starved self.old) (mem_starved self.new)) }
         ensures due { OnOk result (fails ≡ false) }
         ensures uncut { OnErr result (mem_areas self.new ≡ mem_areas self.old) }
         ensures calls { mem_calls self.new ≡ mem_calls self.old }
@@ -345,6 +384,7 @@ impl MemDisk {
         ensures kept { mem_faults self.old ≤ mem_faults self.new }
         ensures failed { OnErr result (mem_faults self.new ≡ next_count (mem_faults self.old)) }
         ensures ok { OnOk result (mem_faults self.new ≡ mem_faults self.old) }
+        ensures starved { mem_starved self.new ≡ mem_starved self.old }
         ensures calls { mem_calls self.new ≡ mem_calls self.old }
         ensures areas { mem_areas self.new ≡ mem_areas self.old }
         ensures story { mem_story self.new ≡ mem_story self.old }
@@ -358,10 +398,11 @@ impl MemDisk {
 
 #[tactic(auto, using(crate::proofs::Told::reads_told))]
 impl Disk for MemDisk {
-    ghost use Rattle.std.specs.Prelude.{◌<◌, true};
+    ghost use Rattle.std.specs.Prelude.{◌<◌, ◌⊎◌, true};
     ghost use Rattle.store_disk.specs.Disk.{Reads, octets_of};
-    ghost use Rattle.store_disk.specs.MemDisk.{mem_areas, mem_calls, mem_faults, mem_story};
-    ghost use Rattle.store_disk.specs.Story.{Cuts, Syncs, Writes, reads};
+    ghost use Rattle.store_disk.specs.MemDisk.{mem_areas, mem_calls, mem_faults, mem_starved, mem_story};
+    ghost use Rattle.kn_base.specs.Count.{Rose};
+    ghost use Rattle.store_disk.specs.Story.{Cuts, FailsToCut, FailsToWrite, Syncs, Writes, reads};
 
     ghost tells = { true };
 
@@ -404,6 +445,7 @@ impl Disk for MemDisk {
         ensures counted { CountsCall (mem_calls self.old).made (mem_calls self.new).made (mem_faults self.old) (mem_faults self.new) result }
         ensures written { Writes area at bytes.now result (mem_story self.old) (mem_story self.new) }
         ensures end { OnOk result (at + length bytes.now ≤ LAST_END) }
+        ensures told { OnErr result (FailsToWrite area at bytes.now (mem_story self.old) (mem_story self.new) ⊎ Rose (mem_starved self.old) (mem_starved self.new)) }
         ensures unwritten { OnErr result (mem_areas self.new ≡ mem_areas self.old) }
         ensures due { OnOk result (¬ IsFailing (mem_calls self.old)) }
         ensures calls { mem_calls self.new ≡ one_more (mem_calls self.old) }
@@ -420,6 +462,7 @@ impl Disk for MemDisk {
         requires { IsWithin (reads (mem_story self.old)) area size }
         ensures counted { CountsCall (mem_calls self.old).made (mem_calls self.new).made (mem_faults self.old) (mem_faults self.new) result }
         ensures cut { Cuts area size result (mem_story self.old) (mem_story self.new) }
+        ensures told { OnErr result (FailsToCut area size (mem_story self.old) (mem_story self.new) ⊎ Rose (mem_starved self.old) (mem_starved self.new)) }
         ensures uncut { OnErr result (mem_areas self.new ≡ mem_areas self.old) }
         ensures due { OnOk result (¬ IsFailing (mem_calls self.old)) }
         ensures calls { mem_calls self.new ≡ one_more (mem_calls self.old) }

@@ -114,8 +114,11 @@ pub fn left_by(
 fn octet_at(log: &[Entry], area: Area, settled: &[u8], place: usize, octet: u8) -> u8
     ensures { result ≡ octet_left settled.now (ranges_in area (reverse log.now)) octet place }
 {
-    if place >= settled.len() || is_written(log, area, place) {
+    if is_written(log, area, place) {
         return octet;
     }
-    settled[place]
+    match settled.get(place) {
+        Some(&old) => old,
+        None => octet,
+    }
 }

@@ -11,7 +11,7 @@ returns c =
     let items = c.args.self.now.log.items in
     let front = c.split_at.ensures.front ∙ ap (take c.args.moment) c.as_slice.ensures.value in
     let back = c.split_at.ensures.back ∙ ap (drop c.args.moment) c.as_slice.ensures.value in
-    let now = c.in_ok-now.ensures ∙ c.area.ensures in
+    let now = c.in_ok-now.ensures ∙ c.area.ensures.held in
     let then = c.in_ok-before_all.ensures ∙ (λ i. octets_through area (reverse (back i)) (now i)) in
     IfOk-weaker c.left_by.result _ _
     (λ left is.

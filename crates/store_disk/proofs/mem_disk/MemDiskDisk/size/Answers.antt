@@ -6,4 +6,4 @@ use Rattle.store_disk.proofs.mem_disk.MemDiskDisk.size.Goals as goal
 
 pub returns-clause-size : goal.returns-clause-size
 returns-clause-size c =
-    ap length (c.area.ensures ∙ ap (λ areas. octets_of areas c.args.area) (c.in_ok-begin.ensures.areas ∙ sym (reads_told (mem_log c.args.self.now) (mem_areas c.args.self.now))))
+    ap length (c.area.ensures.held ∙ ap (λ areas. octets_of areas c.args.area) (c.in_ok-begin.ensures.areas ∙ sym (reads_told (mem_log c.args.self.now) (mem_areas c.args.self.now))))
