@@ -1,4 +1,5 @@
 pub mod Keeping
+pub mod Kept
 pub mod Readers
 pub mod Texts
 pub mod Units
