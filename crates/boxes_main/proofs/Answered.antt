@@ -23,7 +23,7 @@ done_of-append [] ys = refl
 done_of-append (deed ∷ xs) ys = ap (λ es. entries_of deed ++ es) (done_of-append xs ys) ∙ sym (append_assoc (entries_of deed) (done_of xs) (done_of ys))
 
 -- the entries that deeds ask for, where they were accepted
-accepted : Bool → List Deed → List Recorded
+abbrev accepted : Bool → List Deed → List Recorded
 accepted is_so deeds = if is_so then map entry_of deeds else []
 
 none_accepted : (is_so : Bool) → [] ≡ accepted is_so []
