@@ -87,7 +87,7 @@ leaves_more old mid new act P so_far told now =
       goes_on = told;
       each = λ image is. ⊎_elim
           (λ earlier. leaves_now old mid P so_far image (subst (λ s. IsImage s image)
-              (ap (up_to is.moment) told ∙ up_to_before mid (act ∷ []) is.moment (omega (arith, earlier)) ∙ up_to_now mid is.moment is.later) is.image_then))
+          (ap (up_to is.moment) told ∙ up_to_before mid (act ∷ []) is.moment (omega (arith, earlier)) ∙ up_to_now mid is.moment is.later) is.image_then))
           (λ later. now image (subst (λ s. IsImage s image) (up_to_now new is.moment (omega (arith, later, ap moment_of told))) is.image_then))
           (cases_lt is.moment (moment_of mid + 1));
     } in

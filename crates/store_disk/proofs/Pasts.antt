@@ -1,12 +1,12 @@
 -- What a stop may leave of an area by what became of it.
-use Rattle.std.proofs.Common.{◌≡◌, inl, inr, ⊎_elim, ◌⊎◌, ℕ, suc, ◌+◌, ◌-◌, ◌<◌, ◌≤◌, min, max, Bool, true, false, cond, List, [], ◌∷◌, ◌++◌, length, get_or, set, take, drop, refl, sym, ◌∙◌, ap, subst, arith, append_assoc, length-append, length-take, length-drop, length-set, take-append-drop, take_all, take_at, drop_at, take-take, drop-drop, ext_get_or, get_or-take, get_or-set_same, get_or-set_other}
+use Rattle.std.proofs.Common.{◌≡◌, inl, inr, ⊎_elim, ℕ, suc, ◌+◌, ◌<◌, ◌≤◌, max, Bool, true, false, cond, List, [], ◌∷◌, ◌++◌, length, get_or, set, take, drop, refl, sym, ◌∙◌, ap, subst, arith, append_assoc, length-append, length-take, length-drop, length-set, take-append-drop, take_at, drop_at, take-take, drop-drop, ext_get_or, get_or-take, get_or-set_same, get_or-set_other}
 use Rattle.std.proofs.lemmas.Bool.{cases_eq}
 use Rattle.std.proofs.lemmas.List.{take-append-le, drop_more, set_split}
 use Rattle.std.specs.List.{AllByRecursion}
 use Rattle.std.specs.Prelude.{Result, Ok, Err}
-use Rattle.store_disk.specs.Disk.{Areas, octets_of, with_octets, same_area, written}
+use Rattle.store_disk.specs.Disk.{Areas, octets_of, same_area, written}
 use Rattle.store_disk.specs.Doubt.{IsFirm, IsGate, IsButFor}
-use Rattle.store_disk.specs.Story.{Act, Story, Past, tell, wrote, cut, synced, untold, is_on, past_after, past_in, past_of, at_rest, reads, MayLeave, IsImage, IsTorn, IsDoubtful, IsAmong, Tears, Shortens, Writes, Cuts, Syncs}
+use Rattle.store_disk.specs.Story.{Act, Story, Past, tell, wrote, cut, synced, is_on, past_after, past_in, past_of, at_rest, reads, MayLeave, IsImage, IsAmong, Tears, Writes, Cuts, Syncs}
 use Rattle.store_disk.specs.declared.area.Area.{Area}
 use Rattle.store_disk.specs.declared.area.Area.TheVariants.{A, B, Pick}
 use Rattle.store_disk.specs.declared.disk.DiskFailed.{DiskFailed}
@@ -121,10 +121,10 @@ firm_image n past image firm (inr torn) =
     let long : n ≤ length image = omega (arith, firm.least, torn.no_shorter) in
     ext_get_or 0 (take n image) (take n past.settled) (omega (arith, long, firm.settled, length-take n image, length-take n past.settled))
     (λ place lt.
-        let low : place < n = omega (arith, lt, length-take n image) in
-        get_or-take n image place 0 low
-        ∙ ⊎_elim (λ doubt. ⊎_elim (λ over. absurd (omega (arith, over, low, firm.settled))) (λ among. absurd (not_behind n place past.ranges firm.behind low among)) doubt) (λ same. same) (torn.kept place (omega (arith, low, long)))
-        ∙ sym (get_or-take n past.settled place 0 low))
+    let low : place < n = omega (arith, lt, length-take n image) in
+    get_or-take n image place 0 low
+    ∙ ⊎_elim (λ doubt. ⊎_elim (λ over. absurd (omega (arith, over, low, firm.settled))) (λ among. absurd (not_behind n place past.ranges firm.behind low among)) doubt) (λ same. same) (torn.kept place (omega (arith, low, long)))
+    ∙ sym (get_or-take n past.settled place 0 low))
     ∙ sym firm.front
 
 firm_wrote : (n : ℕ) (past : Past) (area : Area) (at count : ℕ) (octets : List ℕ) → IsFirm n past → n ≤ at → n ≤ length octets → take n octets ≡ take n past.octets → IsFirm n (past_after (wrote area at count octets) past)
@@ -247,12 +247,12 @@ gate_image place past image gate (inr torn) =
     let long : length image ≡ length past.settled = omega (arith, torn.no_shorter, torn.no_longer, gate.least, gate.greatest) in
     let put = set past.settled place octet in
     let same : image ≡ put = ext_get_or 0 image put (omega (arith, long, length-set past.settled place octet)) (λ other lt. ⊎_elim
-        (λ here. ap (λ n. get_or image n 0) here ∙ sym (get_or-set_same past.settled place octet 0 gate.inside) ∙ ap (λ n. get_or put n 0) (sym here))
-        (λ there. ⊎_elim
-            (λ doubt. ⊎_elim (λ over. absurd (omega (arith, over, lt, long))) (λ among. absurd (there (only_gate place other past.ranges gate.alone among))) doubt)
-            (λ kept. kept ∙ sym (get_or-set_other past.settled place other octet 0 there))
-            (torn.kept other lt))
-        (cases_eq other place)) in
+    (λ here. ap (λ n. get_or image n 0) here ∙ sym (get_or-set_same past.settled place octet 0 gate.inside) ∙ ap (λ n. get_or put n 0) (sym here))
+    (λ there. ⊎_elim
+    (λ doubt. ⊎_elim (λ over. absurd (omega (arith, over, lt, long))) (λ among. absurd (there (only_gate place other past.ranges gate.alone among))) doubt)
+    (λ kept. kept ∙ sym (get_or-set_other past.settled place other octet 0 there))
+    (torn.kept other lt))
+    (cases_eq other place)) in
     let next : suc place ≡ place + 1 = omega arith in
     (octet, same ∙ set_split past.settled place octet gate.inside ∙ ap (λ n. take place past.settled ++ octet ∷ drop n past.settled) next)
 

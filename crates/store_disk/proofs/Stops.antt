@@ -1,13 +1,13 @@
 -- What a stop leaves of a disk in memory.
-use Rattle.std.proofs.Common.{◌≡◌, inl, inr, ⊎_elim, ◌⊎◌, ℕ, suc, ◌+◌, ◌-◌, ◌<◌, ◌≤◌, Bool, true, false, cond, ◌&&◌, ◌||◌, nat_lt, nat_le, ◌==◌, List, [], ◌∷◌, ◌++◌, length, map, get_or, take, drop, reverse, refl, sym, ◌∙◌, ap, subst, arith, length-append, length-take, take-append-drop, true≢false, leb→le, T}
+use Rattle.std.proofs.Common.{◌≡◌, inl, inr, ⊎_elim, ◌⊎◌, ℕ, suc, ◌+◌, ◌≤◌, Bool, true, false, cond, ◌&&◌, ◌||◌, nat_lt, nat_le, ◌==◌, List, [], ◌∷◌, ◌++◌, length, map, get_or, take, drop, reverse, refl, sym, ◌∙◌, ap, subst, arith, length-append, length-take, take-append-drop, true≢false, leb→le, T}
 use Rattle.std.proofs.lemmas.Bool.{cond_both, le-ltb, ltb-true}
 use Rattle.std.proofs.lemmas.List.{length-reverse, reverse-append}
 use Rattle.std.proofs.lemmas.List.FromFn.{get_or-map-range_with_len, length-map-range_with_len}
 use Rattle.std.specs.List.{range_with_len}
 use Rattle.store_disk.specs.Disk.{Areas, octets_of, same_area, with_octets}
 use Rattle.store_disk.specs.MemDisk.{act_of, areas_before, octets_before, told}
-use Rattle.store_disk.specs.Stop.{is_among, is_sync, is_synced, octet_left, octets_back, octets_left, octets_through, ranges_in, settled_in, stopped_octets, with_range}
-use Rattle.store_disk.specs.Story.{Act, Story, Past, tell, moment_of, past_after, past_of, up_to, IsAmong, IsImage, IsDoubtful, IsTorn, MayLeave}
+use Rattle.store_disk.specs.Stop.{is_among, is_synced, octet_left, octets_left, octets_through, ranges_in, settled_in, stopped_octets, with_range}
+use Rattle.store_disk.specs.Story.{Story, Past, moment_of, past_after, past_of, up_to, IsAmong, IsImage, IsDoubtful, MayLeave}
 use Rattle.store_disk.specs.declared.area.Area.{Area}
 use Rattle.store_disk.specs.declared.area.Area.TheVariants.{A, B, Pick}
 use Rattle.store_disk.specs.declared.entry.Deed.{Deed}
@@ -51,16 +51,16 @@ settled_told (entry ∷ log) areas area =
     let octets = octets_of areas area in
     ⊎_elim
     (λ same.
-        let before = before_own entry areas area same in
-        ap (λ (past : Past). past.settled) (told_own entry log areas area same)
-        ∙ settled_behind area entry.deed octets (settled_in area log (octets_before entry.deed octets)) earlier
-            (settled_told log (areas_before entry areas) area ∙ ap (settled_in area log) before)
-            (octets_told log (areas_before entry areas) area ∙ before)
-        ∙ ap (λ b. cond (cond b (is_synced entry.deed) false) octets (settled_in area log (cond b (octets_before entry.deed octets) octets))) (sym (on_own area entry.area same)))
+    let before = before_own entry areas area same in
+    ap (λ (past : Past). past.settled) (told_own entry log areas area same)
+    ∙ settled_behind area entry.deed octets (settled_in area log (octets_before entry.deed octets)) earlier
+    (settled_told log (areas_before entry areas) area ∙ ap (settled_in area log) before)
+    (octets_told log (areas_before entry areas) area ∙ before)
+    ∙ ap (λ b. cond (cond b (is_synced entry.deed) false) octets (settled_in area log (cond b (octets_before entry.deed octets) octets))) (sym (on_own area entry.area same)))
     (λ off. ap (λ (past : Past). past.settled) (told_other entry log areas area off)
-        ∙ settled_told log (areas_before entry areas) area
-        ∙ ap (settled_in area log) (before_other entry areas area off)
-        ∙ ap (λ b. cond (cond b (is_synced entry.deed) false) octets (settled_in area log (cond b (octets_before entry.deed octets) octets))) (sym off))
+    ∙ settled_told log (areas_before entry areas) area
+    ∙ ap (settled_in area log) (before_other entry areas area off)
+    ∙ ap (λ b. cond (cond b (is_synced entry.deed) false) octets (settled_in area log (cond b (octets_before entry.deed octets) octets))) (sym off))
     (same_or_not area entry.area)
 
 -- what was written since
@@ -71,11 +71,11 @@ ranges_told (entry ∷ log) areas area =
     let rest = ranges_in area log in
     ⊎_elim
     (λ same. ap (λ (past : Past). past.ranges) (told_own entry log areas area same)
-        ∙ ranges_behind area entry.deed (octets_of areas area) rest earlier (ranges_told log (areas_before entry areas) area)
-        ∙ ap (λ b. cond (cond b (is_synced entry.deed) false) [] (cond b (with_range entry.deed rest) rest)) (sym (on_own area entry.area same)))
+    ∙ ranges_behind area entry.deed (octets_of areas area) rest earlier (ranges_told log (areas_before entry areas) area)
+    ∙ ap (λ b. cond (cond b (is_synced entry.deed) false) [] (cond b (with_range entry.deed rest) rest)) (sym (on_own area entry.area same)))
     (λ off. ap (λ (past : Past). past.ranges) (told_other entry log areas area off)
-        ∙ ranges_told log (areas_before entry areas) area
-        ∙ ap (λ b. cond (cond b (is_synced entry.deed) false) [] (cond b (with_range entry.deed rest) rest)) (sym off))
+    ∙ ranges_told log (areas_before entry areas) area
+    ∙ ap (λ b. cond (cond b (is_synced entry.deed) false) [] (cond b (with_range entry.deed rest) rest)) (sym off))
     (same_or_not area entry.area)
 
 -- ---- a moment of a log
@@ -90,9 +90,9 @@ octets_of-through [] areas area = refl
 octets_of-through (entry ∷ log) areas area =
     octets_of-through log (areas_before entry areas) area
     ∙ ap (octets_through area log) (⊎_elim
-        (λ same. before_own entry areas area same ∙ ap (λ b. cond b (octets_before entry.deed (octets_of areas area)) (octets_of areas area)) (sym (on_own area entry.area same)))
-        (λ off. before_other entry areas area off ∙ ap (λ b. cond b (octets_before entry.deed (octets_of areas area)) (octets_of areas area)) (sym off))
-        (same_or_not area entry.area))
+    (λ same. before_own entry areas area same ∙ ap (λ b. cond b (octets_before entry.deed (octets_of areas area)) (octets_of areas area)) (sym (on_own area entry.area same)))
+    (λ off. before_other entry areas area off ∙ ap (λ b. cond b (octets_before entry.deed (octets_of areas area)) (octets_of areas area)) (sym off))
+    (same_or_not area entry.area))
 
 -- each entry tells one act
 pub moment_of-told : (log : List Entry) (areas : Areas) → moment_of (told log areas) ≡ length log
@@ -104,13 +104,13 @@ up_to-told : (later earlier : List Entry) (areas : Areas) → up_to (length earl
 up_to-told [] earlier areas = up_to_now (told earlier areas) (length earlier) (omega (arith, moment_of-told earlier areas))
 up_to-told (entry ∷ later) earlier areas =
     up_to_before (told (later ++ earlier) (areas_before entry areas)) (act_of entry.area entry.deed (octets_of areas entry.area) ∷ []) (length earlier)
-        (omega (arith, moment_of-told (later ++ earlier) (areas_before entry areas), length-append later earlier))
+    (omega (arith, moment_of-told (later ++ earlier) (areas_before entry areas), length-append later earlier))
     ∙ up_to-told later earlier (areas_before entry areas)
 
 -- what is left of an area at a moment, going back over the log
 pub left_at : (log : List Entry) (areas : Areas) (area : Area) (moment choice : ℕ) → moment ≤ length log
     → octets_left (settled_in area (reverse (take moment log)) (octets_through area (reverse (drop moment log)) (octets_of areas area))) (ranges_in area (reverse (take moment log)))
-        (octets_through area (reverse (drop moment log)) (octets_of areas area)) choice
+    (octets_through area (reverse (drop moment log)) (octets_of areas area)) choice
     ≡ stopped_octets (past_of (up_to moment (told (reverse log) areas)) area) choice
 left_at log areas area moment choice le =
     let earlier = reverse (take moment log) in
@@ -141,8 +141,8 @@ among : (ranges : List (ℕ × ℕ)) (place : ℕ) → is_among ranges place ≡
 among [] place is = absurd (true≢false (sym is))
 among (range ∷ ranges) place is = ⊎_elim
     (λ within.
-        let two = both (nat_le range.0 place) (nat_lt place (range.0 + range.1)) within in
-        inl (is_le range.0 place two.0, ltb-true place (range.0 + range.1) two.1))
+    let two = both (nat_le range.0 place) (nat_lt place (range.0 + range.1)) within in
+    inl (is_le range.0 place two.0, ltb-true place (range.0 + range.1) two.1))
     (λ later. inr (among ranges place later))
     (either (nat_le range.0 place && nat_lt place (range.0 + range.1)) (is_among ranges place) is)
 
@@ -164,13 +164,13 @@ stopped_may past choice is =
     cond_both (choice == 0) past.settled (cond (choice == 1) past.octets turned) (MayLeave past)
     (λ old. inr (record { no_shorter = is.least_settled; no_longer = is.greatest_settled; kept = λ place lt. inr refl }))
     (λ other. cond_both (choice == 1) past.octets turned (MayLeave past)
-        (λ new. inl refl)
-        (λ octet. inr (record {
-            no_shorter = omega (arith, is.least, long);
-            no_longer = omega (arith, is.greatest, long);
-            kept = λ place lt. subst (λ x. IsDoubtful past place ⊎ (x ≡ get_or past.settled place 0))
-                (sym (get_or-map-range_with_len left 0 (length past.octets) place place 0 (omega (arith, lt, long)) (omega arith))) (kept_at past choice place);
-        })))
+    (λ new. inl refl)
+    (λ octet. inr (record {
+      no_shorter = omega (arith, is.least, long);
+      no_longer = omega (arith, is.greatest, long);
+      kept = λ place lt. subst (λ x. IsDoubtful past place ⊎ (x ≡ get_or past.settled place 0))
+          (sym (get_or-map-range_with_len left 0 (length past.octets) place place 0 (omega (arith, lt, long)) (omega arith))) (kept_at past choice place);
+    })))
 
 -- the areas that a stop leaves are an image
 pub stopped_image : (story : Story) (moment choice : ℕ) (image : Areas) → ((area : Area) → octets_of image area ≡ stopped_octets (past_of (up_to moment story) area) choice) → IsImage (up_to moment story) image
@@ -183,10 +183,10 @@ pub stopped_reads : (log : List Entry) (areas image : Areas) (moment choice : �
     → moment ≡ length log → choice ≡ 1 → image ≡ areas
 stopped_reads log areas image moment choice is all reads =
     let each : (area : Area) → octets_of image area ≡ octets_of areas area = λ area.
-        is area
-        ∙ (λ i. stopped_octets (past_of (up_to (all i) (told log areas)) area) (reads i))
-        ∙ ap (λ story. (past_of story area).octets) (up_to_now (told log areas) (length log) (omega (arith, moment_of-told log areas)))
-        ∙ octets_told log areas area in
+    is area
+    ∙ (λ i. stopped_octets (past_of (up_to (all i) (told log areas)) area) (reads i))
+    ∙ ap (λ story. (past_of story area).octets) (up_to_now (told log areas) (length log) (omega (arith, moment_of-told log areas)))
+    ∙ octets_told log areas area in
     λ i. record { a = each A i; b = each B i; pick = each Pick i }
 
 -- a call that wasn't made

@@ -1,12 +1,11 @@
 -- What the log of a disk in memory tells.
-use Rattle.std.proofs.Common.{◌≡◌, inl, inr, ⊎_elim, ◌⊎◌, ℕ, suc, ◌+◌, ◌≤◌, max, Bool, true, false, cond, List, [], ◌∷◌, ◌++◌, length, take, drop, reverse, refl, sym, ◌∙◌, ap, subst, arith, append_assoc, length-append, length-take, length-drop, take-append-drop, take_at, take_all, append-nil, drop_at, drop-drop, true≢false, Result, Ok, Err}
+use Rattle.std.proofs.Common.{◌≡◌, inl, inr, ⊎_elim, ◌⊎◌, ℕ, ◌+◌, ◌≤◌, false, List, [], ◌∷◌, ◌++◌, length, take, drop, refl, sym, ◌∙◌, ap, arith, append_assoc, length-append, length-take, take-append-drop, take_at, take_all, append-nil, drop_at, drop-drop, true≢false}
 use Rattle.std.proofs.lemmas.List.{drop_all}
-use Rattle.store_disk.specs.Disk.{Areas, octets_of, with_octets, same_area, written, after_write, IsWithin}
+use Rattle.store_disk.specs.Disk.{Areas, octets_of, with_octets, same_area, written, after_write}
 use Rattle.store_disk.specs.MemDisk.{act_of, areas_before, cut_entry, octets_before, told, write_entry}
-use Rattle.store_disk.specs.Story.{Act, Story, Past, tell, wrote, cut, synced, is_on, past_after, past_of, reads, Tears, Shortens, Writes, Cuts, Syncs}
+use Rattle.store_disk.specs.Story.{Past, tell, wrote, cut, synced, is_on, past_after, past_of, reads, Tears, Shortens}
 use Rattle.store_disk.specs.declared.area.Area.{Area}
 use Rattle.store_disk.specs.declared.area.Area.TheVariants.{A, B, Pick}
-use Rattle.store_disk.specs.declared.disk.DiskFailed.{DiskFailed}
 use Rattle.store_disk.specs.declared.entry.Deed.{Deed}
 use Rattle.store_disk.specs.declared.entry.Deed.TheVariants.{Wrote, Cut, Synced}
 use Rattle.store_disk.specs.declared.entry.Entry.{Entry}
@@ -81,13 +80,13 @@ pub octets_told : (log : List Entry) (areas : Areas) (area : Area) → (past_of 
 octets_told [] areas area = refl
 octets_told (entry ∷ log) areas area = ⊎_elim
     (λ same. ap (λ (past : Past). past.octets) (told_own entry log areas area same)
-        ∙ octets_behind area entry.deed (octets_of areas area) (past_of (told log (areas_before entry areas)) area)
-            (octets_told log (areas_before entry areas) area
-            ∙ ap (λ a. octets_of (with_octets areas a (octets_before entry.deed (octets_of areas a))) area) (sym same)
-            ∙ octets_of-with areas area (octets_before entry.deed (octets_of areas area))))
+    ∙ octets_behind area entry.deed (octets_of areas area) (past_of (told log (areas_before entry areas)) area)
+    (octets_told log (areas_before entry areas) area
+    ∙ ap (λ a. octets_of (with_octets areas a (octets_before entry.deed (octets_of areas a))) area) (sym same)
+    ∙ octets_of-with areas area (octets_before entry.deed (octets_of areas area))))
     (λ off. ap (λ (past : Past). past.octets) (told_other entry log areas area off)
-        ∙ octets_told log (areas_before entry areas) area
-        ∙ octets_of-others areas area entry.area (octets_before entry.deed (octets_of areas entry.area)) off)
+    ∙ octets_told log (areas_before entry areas) area
+    ∙ octets_of-others areas area entry.area (octets_before entry.deed (octets_of areas entry.area)) off)
     (same_or_not area entry.area)
 
 -- the story reads as what the disk holds
@@ -146,17 +145,18 @@ pub told_unwritten : (call : ℕ) (area : Area) (at count : ℕ) (log new_log : 
     → (octets : List ℕ) × (told new_log new ≡ tell (wrote area at count octets) (told log areas)) × Tears at count (octets_of (reads (told log areas)) area) octets
 told_unwritten call area at count log new_log areas new noted same =
     let octets = octets_of areas area in
-    let read = read_told log areas area in
-    (octets,
-    (λ i. told (noted i) (same i))
-    ∙ ap (λ a. told (write_entry call area at count areas ∷ log) a) (sym (with_octets-same areas area))
-    ∙ told_more call area (Wrote at count (take count (drop at octets))) log areas octets (three at count octets),
-    record {
-      before = ap (λ (l : List ℕ). take at l) (sym read);
-      behind = ap (λ (l : List ℕ). drop (at + count) l) (sym read);
-      no_shorter = omega (arith, ap length read);
-      no_longer = omega (arith, ap length read);
-    })
+    let read = read_told log areas area in (
+      octets,
+      (λ i. told (noted i) (same i))
+          ∙ ap (λ a. told (write_entry call area at count areas ∷ log) a) (sym (with_octets-same areas area))
+          ∙ told_more call area (Wrote at count (take count (drop at octets))) log areas octets (three at count octets),
+      record {
+        before = ap (λ (l : List ℕ). take at l) (sym read);
+        behind = ap (λ (l : List ℕ). drop (at + count) l) (sym read);
+        no_shorter = omega (arith, ap length read);
+        no_longer = omega (arith, ap length read);
+      },
+    )
 
 -- a good cut
 pub told_cut : (call : ℕ) (area : Area) (size : ℕ) (log new_log : List Entry) (areas new : Areas) → new_log ≡ cut_entry call area size size areas ∷ log → new ≡ with_octets areas area (take size (octets_of areas area))
@@ -173,15 +173,16 @@ pub told_uncut : (call : ℕ) (area : Area) (size left : ℕ) (log new_log : Lis
     → (octets : List ℕ) × (told new_log new ≡ tell (cut area size octets) (told log areas)) × Shortens size (octets_of (reads (told log areas)) area) octets
 told_uncut call area size left log new_log areas new le all noted same =
     let octets = octets_of areas area in
-    let read = read_told log areas area in
-    (octets,
-    (λ i. told (noted i) (same i))
-    ∙ ap (λ a. told (cut_entry call area size left areas ∷ log) a) (sym (with_octets-same areas area))
-    ∙ told_more call area (Cut size (drop left octets)) log areas octets (ap (λ (l : List ℕ). octets ++ l) (drop_all left octets (omega (arith, all))) ∙ append-nil octets),
-    record {
-      front = sym (take_all (length octets) octets (omega arith)) ∙ ap (λ (l : List ℕ). take (length octets) l) (sym read);
-      no_shorter = le;
-    })
+    let read = read_told log areas area in (
+      octets,
+      (λ i. told (noted i) (same i))
+          ∙ ap (λ a. told (cut_entry call area size left areas ∷ log) a) (sym (with_octets-same areas area))
+          ∙ told_more call area (Cut size (drop left octets)) log areas octets (ap (λ (l : List ℕ). octets ++ l) (drop_all left octets (omega (arith, all))) ∙ append-nil octets),
+      record {
+        front = sym (take_all (length octets) octets (omega arith)) ∙ ap (λ (l : List ℕ). take (length octets) l) (sym read);
+        no_shorter = le;
+      },
+    )
 
 -- a good sync
 pub told_synced : (call : ℕ) (area : Area) (log new_log : List Entry) (areas new : Areas) → new_log ≡ record { call = call; area = area; deed = Synced } ∷ log → new ≡ areas

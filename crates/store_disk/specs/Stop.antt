@@ -1,7 +1,7 @@
 -- What a stop leaves of the areas of a disk in memory, by what is chosen for what is in doubt.
 use Rattle.std.specs.Prelude.{ℕ, ◌+◌, Bool, true, false, ◌&&◌, ◌||◌, nat_lt, nat_le, ◌==◌, List, [], ◌∷◌, length, map, get_or, if◌then◌else◌}
 use Rattle.std.specs.List.{range_with_len}
-use Rattle.store_disk.specs.Disk.{Areas, octets_of, same_area}
+use Rattle.store_disk.specs.Disk.{same_area}
 use Rattle.store_disk.specs.MemDisk.{mem_calls, mem_log, octets_before}
 use Rattle.store_disk.specs.Story.{Past}
 use Rattle.store_disk.specs.declared.area.Area.{Area}

@@ -157,7 +157,13 @@ impl MemDisk {
     {
         let (log, later) = self.log.as_slice().split_at(moment);
         let now = Octets::from_slice(alloc, self.area(area))?;
-        left_by(alloc, log, area, before_all(alloc, later, area, now)?, choice)
+        left_by(
+            alloc,
+            log,
+            area,
+            before_all(alloc, later, area, now)?,
+            choice,
+        )
     }
 }
 
@@ -319,13 +325,7 @@ impl MemDisk {
     }
 
     // A cut, which may be one that fails. Whatever fails leaves what the areas hold.
-    fn shorten(
-        &mut self,
-        call: u64,
-        area: Area,
-        size: usize,
-        fails: bool,
-    ) -> Result<(), DiskFailed>
+    fn shorten(&mut self, call: u64, area: Area, size: usize, fails: bool) -> Result<(), DiskFailed>
         requires { IsWithin (mem_areas self.old) area size }
         ensures cut { Cuts area size result (mem_story self.old) (mem_story self.new) }
         ensures told { OnErr result (FailsToCut area size (mem_story self.old) (mem_story self.new) ⊎ Rose (mem_starved self.old) (mem_starved self.new)) }

@@ -15,7 +15,7 @@ returns c =
     let then = c.in_ok-before_all.ensures ∙ (λ i. octets_through area (reverse (back i)) (now i)) in
     IfOk-weaker c.left_by.result _ _
     (λ left is.
-        is
-        ∙ (λ i. octets_left (settled_in area (reverse (front i)) (then i)) (ranges_in area (reverse (front i))) (then i) c.args.choice)
-        ∙ left_at items (mem_areas c.args.self.now) area c.args.moment c.args.choice c.requires)
+    is
+    ∙ (λ i. octets_left (settled_in area (reverse (front i)) (then i)) (ranges_in area (reverse (front i))) (then i) c.args.choice)
+    ∙ left_at items (mem_areas c.args.self.now) area c.args.moment c.args.choice c.requires)
     c.left_by.ensures
