@@ -22,6 +22,7 @@ use Rattle.store_disk.specs.Story.{Story, IsImage, LeavesOnly}
 use Rattle.store_disk.specs.declared.disk.DiskFailed.{DiskFailed}
 use Rattle.store_journal.specs.Journal.{IsJournal, IsHandedOut, HoldsSame, MayHold, area_of, left}
 use Rattle.store_journal.specs.declared.journal.Journal.{Journal}
+use Rattle.store_journal.proofs.Holding.{may_hold_now}
 use Rattle.gate_store.specs.Deeds.{Performs, LeavesUnsure, IsReason, CountsFault, is_by_disk, is_disk, put_behind, state_behind}
 use Rattle.gate_store.specs.Entries.{payloads, start, state_of, AreInTurn}
 use Rattle.gate_store.specs.Reopening.{MayReopen, MayReopenIn}

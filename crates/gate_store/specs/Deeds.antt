@@ -135,6 +135,12 @@ module _ {D : Type 0} (tells : Bool) (story : D → Story) (faults calls : D →
   abbrev pub given_up : Rules → (link now message : ℕ) → Recorded
   given_up rules link now message = entry.Rejected (record { message = message; smsc = id_of link rules; cause = Expired; time = now })
 
+  -- why a message isn't handed out: the entry that gives it up is refused; or memory was wanting, and nothing has changed
+  abbrev pub Withholds : (expired : Bool) → Store D → (link now message : ℕ) → Refusal → Store D → Type 0
+  Withholds true old link now message refusal new =
+      Performs old (given_up (rules_in old) link now message) (Err refusal) new ⊎ ((refusal ≡ Memory) × (new ≡ old))
+  Withholds false old link now message refusal new = (refusal ≡ Memory) × (new ≡ old)
+
   -- What a store answers to a link that asks for its next message, which is this one: where its validity has passed it is given up, and
   -- else it is taken, and the message handed out.
   abbrev pub TakesMessage : Store D → (link now message : ℕ) → Result (Option Taken) Refusal → Store D → Type 0
@@ -144,9 +150,7 @@ module _ {D : Type 0} (tells : Bool) (story : D → Story) (faults calls : D →
   TakesMessage old link now message (Ok (Some (taken.Expired number))) new =
       (is_expired message now (state_in old) ≡ true) × (number ≡ message)
       × (reply : Reply) × Performs old (given_up (rules_in old) link now message) (Ok reply) new
-  TakesMessage old link now message (Err refusal) new =
-      if is_expired message now (state_in old) then Performs old (given_up (rules_in old) link now message) (Err refusal) new
-      else ((refusal ≡ Memory) × (new ≡ old))
+  TakesMessage old link now message (Err refusal) new = Withholds (is_expired message now (state_in old)) old link now message refusal new
 
   -- what a store answers to a link that asks for its next message: nothing exactly where there is none
   abbrev pub TakesNext : Store D → (link now : ℕ) → Option ℕ → Result (Option Taken) Refusal → Store D → Type 0
