@@ -1,6 +1,6 @@
 -- What the calls of a journal keep.
 use Rattle.std.proofs.Common.{◌≡◌, inl, inr, ℕ, ◌+◌, ◌-◌, ◌<◌, ◌≤◌, ◌^◌, Bool, true, false, cond, List, [], ◌∷◌, ◌++◌, length, take, drop, sym, ◌∙◌, ap, subst, arith, refl, length-append, length-take, append_assoc, Some, None, Option, Result, Ok, Err}
-use Rattle.std.specs.Prelude.{All, OnErr, OnOk, is_some}
+use Rattle.std.specs.Prelude.{All, IsErr, OnErr, OnOk, is_some}
 use Rattle.std.specs.Bool.{OnTrue}
 use Rattle.std.proofs.lemmas.Bool.{OnTrue_at, OnTrue_from, true≢false}
 use Rattle.std.proofs.lemmas.List.{append-nil}
@@ -192,3 +192,50 @@ module _ {D : Type 0} (tells : Bool) (story : D → Story) where
   pub kept_sure : (journal : Journal D) → IsKept tells story journal → is_unsure journal ≡ false → (birth : ℕ) × (payloads : List (List ℕ)) × IsJournal tells story journal birth payloads None
   kept_sure journal kept sure =
       (kept.0, kept.1, subst (λ (u : Option (List ℕ)). IsJournal tells story journal kept.0 kept.1 u) (none_of kept.2 (sym kept.3.doubt ∙ sure)) kept.3)
+
+  -- ---- a repair
+
+  -- where nothing is unsure nothing is done
+  pub repair_none : {T : Type 0} (journal : Journal D) (birth : ℕ) (payloads : List (List ℕ)) (unsure : Option (List ℕ)) (done : T) → IsJournal tells story journal birth payloads unsure → is_unsure journal ≡ false
+      → Repairs {T = T} tells story journal journal (Ok done) birth payloads unsure
+  repair_none journal birth payloads unsure done is sure = record {
+    ok = subst (λ (u : Option (List ℕ)). IsJournal tells story journal birth payloads u) (none_of unsure (sym is.doubt ∙ sure)) is;
+    failed = tt;
+    stops = OnTrue_from tells _ (λ told. leaves_first (story journal.disk) (MayHold birth journal.area payloads unsure) (OnTrue_at told (holds journal birth payloads unsure is)));
+  }
+
+  gate_shut : {T : Type 0} (old : Journal D) (now : Story) (birth : ℕ) (payloads : List (List ℕ)) (unsure : List ℕ) (result : Result T DiskFailed) → IsJournal tells story old birth payloads (Some unsure)
+      → OnTrue tells (WritesSynced old.area old.end (0 ∷ []) result (story old.disk) now) → OnTrue tells (WritesGate (story old.disk) now old.area birth payloads unsure 0 result)
+  gate_shut old now birth payloads unsure result is commit =
+      OnTrue_from tells _ (λ told. writes_gate (story old.disk) now old.area birth payloads unsure 0 result is.small is.sizes (OnTrue_at told is.kept)
+      (subst (λ n. WritesSynced old.area n (0 ∷ []) result (story old.disk) now) is.end (OnTrue_at told commit)))
+
+  -- the gate is closed
+  pub repair_closed : {T : Type 0} (old new : Journal D) (birth : ℕ) (payloads : List (List ℕ)) (unsure : Option (List ℕ)) (done : T) → IsJournal tells story old birth payloads unsure → is_unsure old ≡ true
+      → left new ≡ left old → new.birth ≡ old.birth → new.area ≡ old.area → new.place ≤ length new.octets.items → new.end ≡ old.end → new.unit.items ≡ old.unit.items → new.unsure ≡ false
+      → OnTrue tells (WritesSynced {T = T} old.area old.end (0 ∷ []) (Ok done) (story old.disk) (story new.disk))
+      → Repairs {T = T} tells story old new (Ok done) birth payloads unsure
+  repair_closed old new birth payloads None done is doubt same_left same_birth same_area place end same_unit sure commit = absurd (true≢false (sym doubt ∙ is.doubt))
+  repair_closed old new birth payloads (Some unsure) done is doubt same_left same_birth same_area place end same_unit sure commit =
+      let shut = gate_shut old (story new.disk) birth payloads unsure (Ok done) is commit in
+      record {
+        ok = repaired old new birth payloads (Some unsure) None is same_left same_birth place end same_unit sure
+            (OnTrue_from tells _ (λ told. subst (λ area. IsKeptBy (story new.disk) area birth payloads None) (sym same_area) ((OnTrue_at told shut).closed refl)));
+        failed = tt;
+        stops = OnTrue_from tells _ (λ told. (OnTrue_at told shut).stops);
+      }
+
+  -- or it is still unsure
+  pub repair_failed : {T S : Type 0} (old new : Journal D) (birth : ℕ) (payloads : List (List ℕ)) (unsure : Option (List ℕ)) (result : Result T DiskFailed) (before : Result S DiskFailed) → IsErr result → IsErr before
+      → IsJournal tells story old birth payloads unsure → is_unsure old ≡ true
+      → left new ≡ left old → new.birth ≡ old.birth → new.area ≡ old.area → new.place ≤ length new.octets.items → new.end ≡ old.end → new.unit.items ≡ old.unit.items → new.unsure ≡ old.unsure
+      → OnTrue tells (WritesSynced old.area old.end (0 ∷ []) before (story old.disk) (story new.disk))
+      → IsJournal tells story new birth payloads unsure × Repairs {T = T} tells story old new result birth payloads unsure
+  repair_failed old new birth payloads unsure (Ok done) before err err_before is doubt same_left same_birth same_area place end same_unit still commit = absurd (cc)
+  repair_failed old new birth payloads unsure (Err failed) (Ok done) err err_before is doubt same_left same_birth same_area place end same_unit still commit = absurd (cc)
+  repair_failed old new birth payloads None (Err failed) (Err told) err err_before is doubt same_left same_birth same_area place end same_unit still commit = absurd (true≢false (sym doubt ∙ is.doubt))
+  repair_failed old new birth payloads (Some unsure) (Err failed) (Err told) err err_before is doubt same_left same_birth same_area place end same_unit still commit =
+      let shut = gate_shut old (story new.disk) birth payloads unsure (Err told) is commit in
+      let now = repaired old new birth payloads (Some unsure) (Some unsure) is same_left same_birth place end same_unit (still ∙ is.doubt)
+          (OnTrue_from tells _ (λ told. subst (λ area. IsKeptBy (story new.disk) area birth payloads (Some unsure)) (sym same_area) (OnTrue_at told shut).failed)) in
+      (now, record { ok = tt; failed = now; stops = OnTrue_from tells _ (λ told. (OnTrue_at told shut).stops) })

@@ -1,3 +1,4 @@
+pub mod Bearing
 pub mod Keeping
 pub mod Kept
 pub mod Readers

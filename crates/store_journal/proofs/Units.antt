@@ -1,5 +1,5 @@
 -- The units with which octets begin: the first of them, and those behind it.
-use Rattle.std.proofs.Common.{◌≡◌, ℕ, suc, ◌-◌, ◌<◌, false, eqb, leb, List, [], ◌∷◌, ◌++◌, length, take, drop, Ok, Err, refl, sym, ◌∙◌, ap, subst, arith, length-append, append_assoc}
+use Rattle.std.proofs.Common.{◌≡◌, ℕ, suc, ◌-◌, ◌<◌, ◌≤◌, ◌+◌, false, eqb, leb, List, [], ◌∷◌, ◌++◌, length, length-drop, take, drop, Ok, Err, refl, sym, ◌∙◌, ap, subst, arith, length-append, append_assoc}
 use Rattle.std.proofs.lemmas.Bool.{eqb-false, false_from_ne_true, and_parts, leb-true}
 use Rattle.std.proofs.lemmas.List.{drop_at, take-append-drop, take_rest}
 use Rattle.exact_octets.specs.Alphabet.{within}
@@ -55,6 +55,12 @@ step octets place payload behind is =
     let on : drop (length octets - length behind) octets ≡ behind =
     ap (drop (length octets - length behind)) apart ∙ drop_at (take place octets ++ unit payload) behind (length octets - length behind) (omega (arith, ap length apart, length-append (take place octets ++ unit payload) behind)) in
     ap payloads_in (sym all) ∙ is.payloads ∙ ap (λ (l : List ℕ). payload ∷ payloads_in l) (sym on)
+
+-- and how far that is
+pub step_far : (octets : List ℕ) (place : ℕ) (payload behind : List ℕ) → place ≤ length octets → IsFirstUnit (take (length octets - place) (drop place octets)) payload behind → length octets - length behind ≡ place + 5 + length payload
+step_far octets place payload behind le is =
+    let size : length (unit payload) ≡ 5 + length payload = omega arith in
+    omega (arith, le, size, ap length is.apart, length-append (unit payload) behind, ap length (take_rest octets place), length-drop place octets)
 
 -- no unit at a place
 pub stop : (octets : List ℕ) (place : ℕ) → IsNoUnit (take (length octets - place) (drop place octets)) → payloads_in (drop place octets) ≡ []

@@ -72,18 +72,25 @@ pub record IsSmall (most : ℕ) (past : Past) : Type 0 where
   pub reads : length past.octets ≤ most
   pub greatest : past.greatest ≤ most
 
--- Before Pick is written in a birth, a stop leaves a store that isn't born.
-pub record IsBare (story : Story) : Type 0 where
-  pub a : IsSmall 17 (past_of story A)
-  pub b : IsSmall 17 (past_of story B)
-  pub pick : IsSmall 0 (past_of story Pick)
+abbrev pub AreSmall : (Area → ℕ) → Story → Type 0
+AreSmall most story = (area : Area) → IsSmall (most area) (past_of story area)
 
--- And then both areas keep a store without payloads, so that it doesn't matter which of them a stop picks.
+-- the most octets that the areas have in a birth, before Pick is written and after it
+abbrev pub most_unpicked : Area → ℕ
+most_unpicked A = 17
+most_unpicked B = 17
+most_unpicked Pick = 0
+
+abbrev pub most_fresh : Area → ℕ
+most_fresh A = 17
+most_fresh B = 17
+most_fresh Pick = 1
+
+-- Both areas keep a store without payloads, so that it doesn't matter which of them a stop picks, or whether it picks one.
 pub record AreFresh (birth : ℕ) (story : Story) : Type 0 where
   pub a : IsSure birth [] (past_of story A)
   pub b : IsSure birth [] (past_of story B)
-  pub a_small : IsSmall 17 (past_of story A)
-  pub b_small : IsSmall 17 (past_of story B)
+  pub small : AreSmall most_fresh story
 
 -- areas are a store that isn't born, or one that was born without payloads
 abbrev pub IsUnbornOrFresh : ℕ → Areas → Type 0

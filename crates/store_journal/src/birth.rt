@@ -8,7 +8,7 @@ ghost use Rattle.store_journal.specs.Area.{picked, stands, unborn};
 ghost use Rattle.store_journal.specs.Costs.{Spares, Spends};
 ghost use Rattle.store_journal.specs.Journal.{IsCause, IsUnlessDisk, IsUntouched, OpensOver};
 ghost use Rattle.store_journal.specs.Keeping.{IsKeptBy};
-ghost use Rattle.store_journal.specs.Opening.{AreAtRest, IsBare, IsMore, IsUnbornOrFresh};
+ghost use Rattle.store_journal.specs.Opening.{AreAtRest, AreSmall, IsMore, IsUnbornOrFresh, most_unpicked};
 
 use crate::OpenFault;
 use crate::area_text::{FRESH, fresh_area};
@@ -34,7 +34,7 @@ fn refuse_more<D: Disk>(disk: &mut D, area: Area) -> Result<(), OpenFault>
 
 // Writes a store without payloads: both areas, and then Pick, each at rest before the next.
 fn write_fresh<D: Disk>(disk: &mut D, birth: u64) -> Result<(), DiskFailed>
-    requires bare { OnTrue D.tells (IsBare (D.story disk.old)) }
+    requires small { OnTrue D.tells (AreSmall most_unpicked (D.story disk.old)) }
     ensures kept { OnOk result (OnTrue D.tells (IsKeptBy (D.story disk.new) Area.A birth [] None)) }
     ensures stops { OnTrue D.tells (LeavesOnly (D.story disk.old) (D.story disk.new) (IsUnbornOrFresh birth)) }
     ensures spends { Spends 6 (D.calls disk.old) (D.calls disk.new) (D.faults disk.old) (D.faults disk.new) result }
