@@ -34,10 +34,20 @@ stopped_octets past choice = octets_left past.settled past.ranges past.octets ch
 
 -- ---- the log, its last entry first
 
--- how many entries are of the calls up to a number
+-- a deed is a good sync
+abbrev pub is_synced : Deed → Bool
+is_synced (Wrote at count was) = false
+is_synced (Cut size was) = false
+is_synced Synced = true
+
+-- a stop in the call of a number comes before an entry: it is of a later call, or of that call and a sync, which has put nothing in place yet
+abbrev pub is_later : ℕ → Entry → Bool
+is_later call entry = nat_lt call entry.call || (is_synced entry.deed && entry.call == call)
+
+-- how many entries stand before a stop in the call of a number
 abbrev pub moment_at : ℕ → List Entry → ℕ
 moment_at call [] = 0
-moment_at call (entry ∷ log) = if nat_lt call entry.call then moment_at call log else length log + 1
+moment_at call (entry ∷ log) = if is_later call entry then moment_at call log else length log + 1
 
 -- an area before an entry
 abbrev pub octets_back : Area → Entry → List ℕ → List ℕ
@@ -47,12 +57,6 @@ octets_back area entry octets = if same_area area entry.area then octets_before 
 abbrev pub octets_through : Area → List Entry → List ℕ → List ℕ
 octets_through area [] octets = octets
 octets_through area (entry ∷ log) octets = octets_through area log (octets_back area entry octets)
-
--- a deed is a good sync
-abbrev pub is_synced : Deed → Bool
-is_synced (Wrote at count was) = false
-is_synced (Cut size was) = false
-is_synced Synced = true
 
 -- an entry is a good sync of an area
 abbrev pub is_sync : Area → Entry → Bool
@@ -89,7 +93,7 @@ ranges_in area (entry ∷ log) =
 abbrev pub is_made : ℕ → MemDisk → Bool
 is_made call disk = nat_lt call (mem_calls disk).made
 
--- the moment at the end of a call, or of all where it wasn't made
+-- the moment of a stop in a call, or the last one where it wasn't made
 abbrev pub stop_moment : ℕ → MemDisk → ℕ
 stop_moment call disk = if is_made call disk then moment_at call (mem_log disk) else length (mem_log disk)
 

@@ -107,9 +107,9 @@ impl MemDisk {
     ghost use Rattle.store_disk.specs.Stop.{stop_choice, stop_moment, stopped_octets};
     ghost use Rattle.store_disk.specs.Story.{IsImage, IsImageSince, past_of, untold, up_to};
 
-    /// The disk after a stop in the call of this number, as one on which no call was made. Of what that call and those before it left
-    /// in doubt, choice 0 keeps the old octets and the old length, 1 takes the new ones, and any other octet stands at each place in
-    /// doubt, in the new length. Where no such call was made it is the disk as it reads.
+    /// The disk after a stop in the call of this number, as one on which no call was made: a sync has put nothing in place yet. Of what that
+    /// call and those before it left in doubt, choice 0 keeps the old octets and the old length, 1 takes the new ones, and any other octet
+    /// stands at each place in doubt, in the new length. Where no such call was made it is the disk as it reads.
     pub fn stopped(&self, alloc: Global, call: u64, choice: u8) -> Result<MemDisk, Memory>
         ensures octets { IfOk result (λ stopped. (area : Area) → octets_of (mem_areas stopped) area ≡ stopped_octets (past_of (up_to (stop_moment call self.now) (mem_story self.now)) area) (stop_choice call choice self.now)) }
         ensures image { IfOk result (λ stopped. IsImage (up_to (stop_moment call self.now) (mem_story self.now)) (mem_areas stopped)) }
@@ -137,7 +137,7 @@ impl MemDisk {
         Ok(MemDisk::new(alloc, a, b, pick, Vec::new(alloc)))
     }
 
-    // The moment at the end of a call, and what is chosen there.
+    // The moment of a stop in a call, and what is chosen there.
     fn stop(&self, call: u64, choice: u8) -> (usize, u8)
         ensures moment { result.0 ≡ stop_moment call self.now }
         ensures choice { result.1 ≡ stop_choice call choice self.now }
