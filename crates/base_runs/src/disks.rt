@@ -60,11 +60,42 @@ fn put_held<M: Disks>(
     put_disk(made, alloc, name, payload, report)
 }
 
-/// Writes to an area in two places, reads behind its first octet, and puts the sizes of two areas last.
+/// Writes to an area, where that is no further than its end.
+fn write_within<D: Disk>(
+    disk: &mut D,
+    area: Area,
+    at: u64,
+    octets: &[u8],
+) -> Result<(), DiskFailed> {
+    if !octets.is_empty() && at <= disk.size(area)? {
+        disk.write_at(area, at, octets)?;
+    }
+    Ok(())
+}
+
+/// Cuts an area, where it is longer.
+fn cut_within<D: Disk>(disk: &mut D, area: Area, size: u64) -> Result<(), DiskFailed> {
+    if size <= disk.size(area)? {
+        disk.cut(area, size)?;
+    }
+    Ok(())
+}
+
+/// Reads four octets behind the first of an area, where it has them.
+fn read_within<D: Disk>(disk: &mut D, area: Area, octets: &mut [u8; 4]) -> Result<(), DiskFailed> {
+    if 5 <= disk.size(area)? {
+        disk.read(area, 1, octets)?;
+    }
+    Ok(())
+}
+
+/// Writes to an area in two places, reads behind its first octet, and cuts it and syncs it; puts the sizes of two areas last.
 fn write_and_read<D: Disk>(disk: &mut D, octets: &mut [u8; 4]) -> Result<(u64, u64), DiskFailed> {
-    disk.write_at(Area::B, 0, b"abcdef")?;
-    disk.write_at(Area::B, 2, b"XY")?;
-    disk.read(Area::B, 1, octets)?;
+    write_within(disk, Area::B, 0, b"abcdef")?;
+    write_within(disk, Area::B, 2, b"XY")?;
+    read_within(disk, Area::B, octets)?;
+    cut_within(disk, Area::B, 3)?;
+    disk.sync(Area::B)?;
     Ok((disk.size(Area::A)?, disk.size(Area::B)?))
 }
 

@@ -1,5 +1,5 @@
 //! The low crates, of what no clause says: values from outside, calls that succeed where there is memory, that the forms on the
-//! machine say what went through, and the journal over disks of both kinds. Cases are lines of standard input, and what each
+//! machine say what went through, disks call by call, and the journal over disks of both kinds. Cases are lines of standard input, and what each
 //! came to is a line of standard output. Behind each function that takes a case stands what its line holds.
 #![tactic(auto)]
 
@@ -12,6 +12,7 @@ mod journal;
 mod lists;
 mod machine;
 mod memory_forms;
+mod stops;
 mod tables;
 
 use disks::HostDisks;
@@ -33,6 +34,9 @@ impl<R: Runtime + Files<File = File> + Alloc + Copy> Cases for BaseCases<R> {
         let (kind, text) = cut_at(line, b' ');
         if kind == b"each".as_slice() {
             return journal::put_each(alloc, text, report);
+        }
+        if kind == b"stops".as_slice() {
+            return stops::put_stops(alloc, text, report);
         }
         report.extend_from_slice(b"    ")?;
         put_case(self.rt, alloc, kind, text, report)?;

@@ -31,6 +31,7 @@ pub struct MemDisk {
 impl MemDisk {
     ghost use Rattle.store_disk.specs.Disk.{octets_of};
     ghost use Rattle.store_disk.specs.MemDisk.{mem_areas, mem_calls, mem_faults, mem_story};
+    ghost use Rattle.store_disk.specs.Stop.{IsNumbered};
     ghost use Rattle.store_disk.specs.Story.{reads, untold};
 
     /// A disk that holds these octets, on which no call was made. It takes no memory.
@@ -38,6 +39,7 @@ impl MemDisk {
         ensures areas { mem_areas result ≡ record { a = a; b = b; pick = pick } }
         ensures story { mem_story result ≡ untold (mem_areas result) }
         ensures calls { mem_calls result ≡ record { failing = failing.items; made = 0 } }
+        ensures numbered { IsNumbered result }
         ensures faults { mem_faults result ≡ 0 }
     {
         MemDisk {
@@ -57,6 +59,7 @@ impl MemDisk {
         ensures areas { mem_areas result ≡ mem_areas self }
         ensures story { mem_story result ≡ untold (mem_areas self) }
         ensures calls { mem_calls result ≡ record (mem_calls self) { made = 0 } }
+        ensures numbered { IsNumbered result }
         ensures faults { mem_faults result ≡ 0 }
     {
         MemDisk {
@@ -104,7 +107,7 @@ impl MemDisk {
     ghost use Rattle.store_disk.specs.MemDisk.{mem_areas, mem_calls, mem_faults, mem_story};
     ghost use Rattle.std.specs.Prelude.{ℕ, []};
     ghost use Rattle.store_disk.specs.declared.area.Area.{Area};
-    ghost use Rattle.store_disk.specs.Stop.{stop_choice, stop_moment, stopped_octets};
+    ghost use Rattle.store_disk.specs.Stop.{IsNumbered, stop_choice, stop_moment, stopped_octets};
     ghost use Rattle.store_disk.specs.Story.{IsImage, IsImageSince, past_of, untold, up_to};
 
     /// The disk after a stop in the call of this number, as one on which no call was made: a sync has put nothing in place yet. Of what that
@@ -117,6 +120,7 @@ impl MemDisk {
         ensures unmade { (mem_calls self.now).made ≤ call → IfOk result (λ stopped. mem_areas stopped ≡ mem_areas self.now) }
         ensures story { IfOk result (λ stopped. mem_story stopped ≡ untold (mem_areas stopped)) }
         ensures calls { IfOk result (λ stopped. mem_calls stopped ≡ record { failing = []; made = 0 }) }
+        ensures numbered { IfOk result IsNumbered }
         ensures faults { IfOk result (λ stopped. mem_faults stopped ≡ 0) }
     {
         let (moment, choice) = self.stop(call, choice);
@@ -129,6 +133,7 @@ impl MemDisk {
         ensures octets { IfOk result (λ stopped. (area : Area) → octets_of (mem_areas stopped) area ≡ stopped_octets (past_of (up_to moment (mem_story self.now)) area) choice) }
         ensures story { IfOk result (λ stopped. mem_story stopped ≡ untold (mem_areas stopped)) }
         ensures calls { IfOk result (λ stopped. mem_calls stopped ≡ record { failing = []; made = 0 }) }
+        ensures numbered { IfOk result IsNumbered }
         ensures faults { IfOk result (λ stopped. mem_faults stopped ≡ 0) }
     {
         let a = self.left(alloc, Area::A, moment, choice)?;
@@ -290,9 +295,10 @@ impl MemDisk {
 
 // The calls, before their faults are counted.
 impl MemDisk {
-    ghost use Rattle.std.specs.Prelude.{◌⊎◌};
-    ghost use Rattle.store_disk.specs.MemDisk.{mem_areas, mem_calls, mem_faults, mem_starved, mem_story};
-    ghost use Rattle.kn_base.specs.Count.{Rose};
+    ghost use Rattle.std.specs.Prelude.{◌⊎◌, IsTrue};
+    ghost use Rattle.store_disk.specs.Stop.{NotesOne, NumbersCall};
+    ghost use Rattle.store_disk.specs.MemDisk.{mem_areas, mem_calls, mem_faults, mem_log, mem_starved, mem_story};
+    ghost use Rattle.kn_base.specs.Count.{Rose, last_count};
     ghost use Rattle.store_disk.specs.Story.{Cuts, FailsToCut, FailsToWrite, Syncs, Writes};
 
     // A write, which may be one that fails. Whatever fails leaves what the areas hold.
@@ -307,6 +313,7 @@ impl MemDisk {
         requires { IsWithin (mem_areas self.old) area at }
         ensures written { Writes area at bytes.now result (mem_story self.old) (mem_story self.new) }
         ensures told { OnErr result (FailsToWrite area at bytes.now (mem_story self.old) (mem_story self.new) ⊎ Rose (mem_starved self.old) (mem_starved self.new)) }
+        ensures noted { NotesOne call (mem_log self.old) (mem_log self.new) }
         ensures due { OnOk result (fails ≡ false) }
         ensures unwritten { OnErr result (mem_areas self.new ≡ mem_areas self.old) }
         ensures calls { mem_calls self.new ≡ mem_calls self.old }
@@ -329,6 +336,7 @@ impl MemDisk {
         requires { IsWithin (mem_areas self.old) area size }
         ensures cut { Cuts area size result (mem_story self.old) (mem_story self.new) }
         ensures told { OnErr result (FailsToCut area size (mem_story self.old) (mem_story self.new) ⊎ Rose (mem_starved self.old) (mem_starved self.new)) }
+        ensures noted { NotesOne call (mem_log self.old) (mem_log self.new) }
         ensures due { OnOk result (fails ≡ false) }
         ensures uncut { OnErr result (mem_areas self.new ≡ mem_areas self.old) }
         ensures calls { mem_calls self.new ≡ mem_calls self.old }
@@ -348,6 +356,7 @@ impl MemDisk {
     // A sync, which may be one that fails. It fails too where it can't be noted.
     fn settle(&mut self, call: u64, area: Area, fails: bool) -> Result<(), DiskFailed>
         ensures synced { Syncs area result (mem_story self.old) (mem_story self.new) }
+        ensures noted { NotesOne call (mem_log self.old) (mem_log self.new) }
         ensures due { OnOk result (fails ≡ false) }
         ensures areas { mem_areas self.new ≡ mem_areas self.old }
         ensures calls { mem_calls self.new ≡ mem_calls self.old }
@@ -363,15 +372,32 @@ impl MemDisk {
         }
     }
 
-    // Counts a call, and its fault where it is to fail.
+    // Counts a call: its number, and whether it is to fail.
+    fn next_call(&mut self) -> (u64, bool)
+        ensures number { result.0 ≡ (mem_calls self.old).made }
+        ensures within { (mem_calls self.old).made ≤ last_count }
+        ensures fails { IsTrue result.1 ↔ IsFailing (mem_calls self.old) }
+        ensures calls { mem_calls self.new ≡ one_more (mem_calls self.old) }
+        ensures log { mem_log self.new ≡ mem_log self.old }
+        ensures areas { mem_areas self.new ≡ mem_areas self.old }
+        ensures faults { mem_faults self.new ≡ mem_faults self.old }
+        ensures starved { mem_starved self.new ≡ mem_starved self.old }
+    {
+        let call = self.calls.made();
+        (call, self.calls.next_fails())
+    }
+
+    // Counts a call that does nothing to the areas, and its fault where it is to fail.
     fn begin(&mut self) -> Result<(), DiskFailed>
         ensures fails { IsErr result ↔ IsFailing (mem_calls self.old) }
         ensures calls { mem_calls self.new ≡ one_more (mem_calls self.old) }
         ensures counted { CountsCall (mem_calls self.old).made (mem_calls self.new).made (mem_faults self.old) (mem_faults self.new) result }
+        ensures numbered { NumbersCall self.old self.new }
         ensures areas { mem_areas self.new ≡ mem_areas self.old }
         ensures story { mem_story self.new ≡ mem_story self.old }
     {
-        if self.calls.next_fails() {
+        let (_call, fails) = self.next_call();
+        if fails {
             self.faults = raised(self.faults);
             return Err(DiskFailed);
         }
@@ -387,6 +413,7 @@ impl MemDisk {
         ensures starved { mem_starved self.new ≡ mem_starved self.old }
         ensures calls { mem_calls self.new ≡ mem_calls self.old }
         ensures areas { mem_areas self.new ≡ mem_areas self.old }
+        ensures log { mem_log self.new ≡ mem_log self.old }
         ensures story { mem_story self.new ≡ mem_story self.old }
     {
         if done.is_err() {
@@ -396,9 +423,10 @@ impl MemDisk {
     }
 }
 
-#[tactic(auto, using(crate::proofs::Told::reads_told))]
+#[tactic(auto, using(crate::proofs::Told::reads_told, crate::proofs::Numbers::numbers))]
 impl Disk for MemDisk {
     ghost use Rattle.std.specs.Prelude.{◌<◌, ◌⊎◌, true};
+    ghost use Rattle.store_disk.specs.Stop.{NumbersCall};
     ghost use Rattle.store_disk.specs.Disk.{Reads, octets_of};
     ghost use Rattle.store_disk.specs.MemDisk.{mem_areas, mem_calls, mem_faults, mem_starved, mem_story};
     ghost use Rattle.kn_base.specs.Count.{Rose};
@@ -419,6 +447,7 @@ impl Disk for MemDisk {
         ensures areas { mem_areas self.new ≡ mem_areas self.old }
         ensures fails { IsErr result ↔ IsFailing (mem_calls self.old) }
         ensures calls { mem_calls self.new ≡ one_more (mem_calls self.old) }
+        ensures numbered { NumbersCall self.old self.new }
     {
         self.begin()?;
         Ok(self.area(area).len() as u64)
@@ -432,6 +461,7 @@ impl Disk for MemDisk {
         ensures areas { mem_areas self.new ≡ mem_areas self.old }
         ensures fails { IsErr result ↔ IsFailing (mem_calls self.old) }
         ensures calls { mem_calls self.new ≡ one_more (mem_calls self.old) }
+        ensures numbered { NumbersCall self.old self.new }
     {
         self.begin()?;
         self.copy_out(area, at as usize, into);
@@ -449,9 +479,9 @@ impl Disk for MemDisk {
         ensures unwritten { OnErr result (mem_areas self.new ≡ mem_areas self.old) }
         ensures due { OnOk result (¬ IsFailing (mem_calls self.old)) }
         ensures calls { mem_calls self.new ≡ one_more (mem_calls self.old) }
+        ensures numbered { NumbersCall self.old self.new }
     {
-        let call = self.calls.made();
-        let is_failing = self.calls.next_fails();
+        let (call, is_failing) = self.next_call();
         let fails = is_failing || ends_late(at, bytes.len() as u64);
         let done = self.write(call, area, at as usize, bytes, fails);
         self.answered(done)
@@ -466,9 +496,9 @@ impl Disk for MemDisk {
         ensures uncut { OnErr result (mem_areas self.new ≡ mem_areas self.old) }
         ensures due { OnOk result (¬ IsFailing (mem_calls self.old)) }
         ensures calls { mem_calls self.new ≡ one_more (mem_calls self.old) }
+        ensures numbered { NumbersCall self.old self.new }
     {
-        let call = self.calls.made();
-        let fails = self.calls.next_fails();
+        let (call, fails) = self.next_call();
         let done = self.shorten(call, area, size as usize, fails);
         self.answered(done)
     }
@@ -479,9 +509,9 @@ impl Disk for MemDisk {
         ensures areas { mem_areas self.new ≡ mem_areas self.old }
         ensures due { OnOk result (¬ IsFailing (mem_calls self.old)) }
         ensures calls { mem_calls self.new ≡ one_more (mem_calls self.old) }
+        ensures numbered { NumbersCall self.old self.new }
     {
-        let call = self.calls.made();
-        let fails = self.calls.next_fails();
+        let (call, fails) = self.next_call();
         let done = self.settle(call, area, fails);
         self.answered(done)
     }
