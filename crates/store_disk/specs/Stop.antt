@@ -1,6 +1,7 @@
 -- What a stop leaves of the areas of a disk in memory, by what is chosen for what is in doubt.
 use Rattle.std.specs.Prelude.{◌≡◌, ◌⊎◌, ◌≤◌, ◌<◌, ℕ, ◌+◌, Bool, true, false, ◌&&◌, ◌||◌, nat_lt, nat_le, ◌==◌, List, [], ◌∷◌, length, map, get_or, if◌then◌else◌}
 use Rattle.std.specs.List.{AllByRecursion, range_with_len}
+use Rattle.kn_base.specs.Count.{last_count, next_count}
 use Rattle.store_disk.specs.Disk.{same_area}
 use Rattle.store_disk.specs.MemDisk.{mem_calls, mem_log, octets_before}
 use Rattle.store_disk.specs.Story.{Past}
@@ -101,16 +102,17 @@ stop_moment call disk = if is_made call disk then moment_at call (mem_log disk) 
 abbrev pub stop_choice : ℕ → ℕ → MemDisk → ℕ
 stop_choice call choice disk = if is_made call disk then choice else 1
 
--- the number of each entry is that of a call that was made
+-- the number of each entry is that of a call that was made; the count of calls stands still at its end
 abbrev pub IsNumbered : MemDisk → Type 0
-IsNumbered disk = AllByRecursion (λ entry. entry.call ≤ (mem_calls disk).made) (mem_log disk)
+IsNumbered disk = AllByRecursion (λ entry. next_count entry.call ≤ (mem_calls disk).made) (mem_log disk)
 
--- One call more: a stop in it leaves what is told now, and one in a call before it what it left before.
-pub record NumbersCall (old new : MemDisk) : Type 0 where
+-- One call more: a stop in it leaves what is told now, or before it where it is a sync, which has put nothing in place yet; and one in
+-- a call before it what it left before.
+pub record NumbersCall (syncs : Bool) (old new : MemDisk) : Type 0 where
   pub numbered : IsNumbered old → IsNumbered new
-  pub this : IsNumbered old → stop_moment (mem_calls old).made new ≡ length (mem_log new)
+  pub this : IsNumbered old → (mem_calls old).made < last_count → stop_moment (mem_calls old).made new ≡ length (mem_log (if syncs then old else new))
   pub earlier : (call : ℕ) → call < (mem_calls old).made → stop_moment call new ≡ stop_moment call old
 
 -- a call noted one entry under its number, or none
-abbrev pub NotesOne : ℕ → List Entry → List Entry → Type 0
-NotesOne call old new = (new ≡ old) ⊎ ((entry : Entry) × (new ≡ entry ∷ old) × (entry.call ≡ call))
+abbrev pub NotesOne : (syncs : Bool) → ℕ → List Entry → List Entry → Type 0
+NotesOne syncs call old new = (new ≡ old) ⊎ ((entry : Entry) × (new ≡ entry ∷ old) × (entry.call ≡ call) × (is_synced entry.deed ≡ syncs))

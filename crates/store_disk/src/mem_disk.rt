@@ -295,7 +295,7 @@ impl MemDisk {
 
 // The calls, before their faults are counted.
 impl MemDisk {
-    ghost use Rattle.std.specs.Prelude.{◌⊎◌, IsTrue};
+    ghost use Rattle.std.specs.Prelude.{◌⊎◌, true, IsTrue};
     ghost use Rattle.store_disk.specs.Stop.{NotesOne, NumbersCall};
     ghost use Rattle.store_disk.specs.MemDisk.{mem_areas, mem_calls, mem_faults, mem_log, mem_starved, mem_story};
     ghost use Rattle.kn_base.specs.Count.{Rose, last_count};
@@ -313,7 +313,7 @@ impl MemDisk {
         requires { IsWithin (mem_areas self.old) area at }
         ensures written { Writes area at bytes.now result (mem_story self.old) (mem_story self.new) }
         ensures told { OnErr result (FailsToWrite area at bytes.now (mem_story self.old) (mem_story self.new) ⊎ Rose (mem_starved self.old) (mem_starved self.new)) }
-        ensures noted { NotesOne call (mem_log self.old) (mem_log self.new) }
+        ensures noted { NotesOne false call (mem_log self.old) (mem_log self.new) }
         ensures due { OnOk result (fails ≡ false) }
         ensures unwritten { OnErr result (mem_areas self.new ≡ mem_areas self.old) }
         ensures calls { mem_calls self.new ≡ mem_calls self.old }
@@ -336,7 +336,7 @@ impl MemDisk {
         requires { IsWithin (mem_areas self.old) area size }
         ensures cut { Cuts area size result (mem_story self.old) (mem_story self.new) }
         ensures told { OnErr result (FailsToCut area size (mem_story self.old) (mem_story self.new) ⊎ Rose (mem_starved self.old) (mem_starved self.new)) }
-        ensures noted { NotesOne call (mem_log self.old) (mem_log self.new) }
+        ensures noted { NotesOne false call (mem_log self.old) (mem_log self.new) }
         ensures due { OnOk result (fails ≡ false) }
         ensures uncut { OnErr result (mem_areas self.new ≡ mem_areas self.old) }
         ensures calls { mem_calls self.new ≡ mem_calls self.old }
@@ -356,7 +356,7 @@ impl MemDisk {
     // A sync, which may be one that fails. It fails too where it can't be noted.
     fn settle(&mut self, call: u64, area: Area, fails: bool) -> Result<(), DiskFailed>
         ensures synced { Syncs area result (mem_story self.old) (mem_story self.new) }
-        ensures noted { NotesOne call (mem_log self.old) (mem_log self.new) }
+        ensures noted { NotesOne true call (mem_log self.old) (mem_log self.new) }
         ensures due { OnOk result (fails ≡ false) }
         ensures areas { mem_areas self.new ≡ mem_areas self.old }
         ensures calls { mem_calls self.new ≡ mem_calls self.old }
@@ -392,7 +392,7 @@ impl MemDisk {
         ensures fails { IsErr result ↔ IsFailing (mem_calls self.old) }
         ensures calls { mem_calls self.new ≡ one_more (mem_calls self.old) }
         ensures counted { CountsCall (mem_calls self.old).made (mem_calls self.new).made (mem_faults self.old) (mem_faults self.new) result }
-        ensures numbered { NumbersCall self.old self.new }
+        ensures numbered { NumbersCall false self.old self.new }
         ensures areas { mem_areas self.new ≡ mem_areas self.old }
         ensures story { mem_story self.new ≡ mem_story self.old }
     {
@@ -447,7 +447,7 @@ impl Disk for MemDisk {
         ensures areas { mem_areas self.new ≡ mem_areas self.old }
         ensures fails { IsErr result ↔ IsFailing (mem_calls self.old) }
         ensures calls { mem_calls self.new ≡ one_more (mem_calls self.old) }
-        ensures numbered { NumbersCall self.old self.new }
+        ensures numbered { NumbersCall false self.old self.new }
     {
         self.begin()?;
         Ok(self.area(area).len() as u64)
@@ -461,7 +461,7 @@ impl Disk for MemDisk {
         ensures areas { mem_areas self.new ≡ mem_areas self.old }
         ensures fails { IsErr result ↔ IsFailing (mem_calls self.old) }
         ensures calls { mem_calls self.new ≡ one_more (mem_calls self.old) }
-        ensures numbered { NumbersCall self.old self.new }
+        ensures numbered { NumbersCall false self.old self.new }
     {
         self.begin()?;
         self.copy_out(area, at as usize, into);
@@ -479,7 +479,7 @@ impl Disk for MemDisk {
         ensures unwritten { OnErr result (mem_areas self.new ≡ mem_areas self.old) }
         ensures due { OnOk result (¬ IsFailing (mem_calls self.old)) }
         ensures calls { mem_calls self.new ≡ one_more (mem_calls self.old) }
-        ensures numbered { NumbersCall self.old self.new }
+        ensures numbered { NumbersCall false self.old self.new }
     {
         let (call, is_failing) = self.next_call();
         let fails = is_failing || ends_late(at, bytes.len() as u64);
@@ -496,7 +496,7 @@ impl Disk for MemDisk {
         ensures uncut { OnErr result (mem_areas self.new ≡ mem_areas self.old) }
         ensures due { OnOk result (¬ IsFailing (mem_calls self.old)) }
         ensures calls { mem_calls self.new ≡ one_more (mem_calls self.old) }
-        ensures numbered { NumbersCall self.old self.new }
+        ensures numbered { NumbersCall false self.old self.new }
     {
         let (call, fails) = self.next_call();
         let done = self.shorten(call, area, size as usize, fails);
@@ -509,7 +509,7 @@ impl Disk for MemDisk {
         ensures areas { mem_areas self.new ≡ mem_areas self.old }
         ensures due { OnOk result (¬ IsFailing (mem_calls self.old)) }
         ensures calls { mem_calls self.new ≡ one_more (mem_calls self.old) }
-        ensures numbered { NumbersCall self.old self.new }
+        ensures numbered { NumbersCall true self.old self.new }
     {
         let (call, fails) = self.next_call();
         let done = self.settle(call, area, fails);
