@@ -97,8 +97,7 @@ small_rest story rest none a b Pick = subst (IsSmall 0) (sym (rest Pick)) (rest_
 pub bears_area : {T : Type 0} (birth : ℕ) (old new : Story) (area : Area) (bytes : List ℕ) (result : Result T DiskFailed) → AreSmall most_unpicked old → length bytes ≤ most_unpicked area → WritesSynced area 0 bytes result old new
     → AreSmall most_unpicked new × LeavesOnly old new (IsUnbornOrFresh birth)
 bears_area birth old new area bytes result small le commit =
-    let mid : AreSmall most_unpicked commit.mid = small_write most_unpicked old commit.mid area bytes commit.wrote small le commit.writes in
-    (
+    let mid : AreSmall most_unpicked commit.mid = small_write most_unpicked old commit.mid area bytes commit.wrote small le commit.writes in (
       small_sync most_unpicked commit.mid new area result mid commit.syncs,
       commit_leaves area 0 bytes result old new (IsUnbornOrFresh birth) commit (λ image is. inl (unpicked_image old image small is)) (λ image is. inl (unpicked_image commit.mid image mid is)),
     )
@@ -134,9 +133,9 @@ fresh_image : (birth : ℕ) (story : Story) (image : Areas) → birth < 2 ^ 64 �
 fresh_image birth story image small fresh is = ⊎_elim
     (λ none. inl (unborn_small image none (small_image 17 (past_of story A) image.a (fresh.small A) (is A)) (small_image 17 (past_of story B) image.b (fresh.small B) (is B))))
     (λ some. ⊎_elim
-        (λ a. inr (A, stands_text image A birth [] a (sure_image birth [] (past_of story A) image.a small no_sizes fresh.a (is A))))
-        (λ b. inr (B, stands_text image B birth [] b (sure_image birth [] (past_of story B) image.b small no_sizes fresh.b (is B))))
-        some)
+    (λ a. inr (A, stands_text image A birth [] a (sure_image birth [] (past_of story A) image.a small no_sizes fresh.a (is A))))
+    (λ b. inr (B, stands_text image B birth [] b (sure_image birth [] (past_of story B) image.b small no_sizes fresh.b (is B))))
+    some)
     (which image.pick)
 
 more_small : (story : Story) → AreSmall most_unpicked story → AreSmall most_fresh story
@@ -167,11 +166,48 @@ bears_pick birth old new result small fresh commit =
       a = subst (IsSure birth []) (sym (other_write old commit.mid A Pick 0 (1 ∷ []) commit.wrote refl commit.writes)) fresh.a;
       b = subst (IsSure birth []) (sym (other_write old commit.mid B Pick 0 (1 ∷ []) commit.wrote refl commit.writes)) fresh.b;
       small = small_write most_fresh old commit.mid Pick (1 ∷ []) commit.wrote fresh.small (omega arith) commit.writes;
-    } in
-    (
+    } in (
       pick_rest birth old commit.mid new commit.wrote result commit.ok commit.writes commit.syncs (sure_other birth old new A Pick 0 (1 ∷ []) result refl commit fresh.a),
       commit_leaves Pick 0 (1 ∷ []) result old new (IsUnbornOrFresh birth) commit (λ image is. fresh_image birth old image small fresh is) (λ image is. fresh_image birth commit.mid image small mid is),
     )
+
+-- ---- the three writes of a birth
+
+module _ {T : Type 0} (tells : Bool) (birth : ℕ) (octets : List ℕ) (same : octets ≡ area_text birth [] 0) where
+  at_text : (area : Area) (result : Result T DiskFailed) (old new : Story) → WritesSynced area 0 octets result old new → WritesSynced area 0 (area_text birth [] 0) result old new
+  at_text area result old new commit = subst (λ (l : List ℕ). WritesSynced area 0 l result old new) same commit
+
+  pub bears_first : (s0 s1 : Story) (result : Result T DiskFailed) → OnTrue tells (AreSmall most_unpicked s0) → OnTrue tells (WritesSynced A 0 octets result s0 s1) → OnTrue tells (LeavesOnly s0 s1 (IsUnbornOrFresh birth))
+  bears_first s0 s1 result small first = OnTrue_from tells _ (λ told. (bears_area birth s0 s1 A octets result (OnTrue_at told small) (omega (arith, ap length same)) (OnTrue_at told first)).1)
+
+  pub bears_second : (s0 s1 s2 : Story) (before result : Result T DiskFailed) → OnTrue tells (AreSmall most_unpicked s0) → OnTrue tells (WritesSynced A 0 octets before s0 s1) → OnTrue tells (WritesSynced B 0 octets result s1 s2)
+      → OnTrue tells (LeavesOnly s0 s2 (IsUnbornOrFresh birth))
+  bears_second s0 s1 s2 before result small first second = OnTrue_from tells _ (λ told.
+      let a = bears_area birth s0 s1 A octets before (OnTrue_at told small) (omega (arith, ap length same)) (OnTrue_at told first) in
+      let b = bears_area birth s1 s2 B octets result a.0 (omega (arith, ap length same)) (OnTrue_at told second) in
+      leaves_both s0 s1 s2 (IsUnbornOrFresh birth) a.1 b.1)
+
+  bears_third : (s0 s1 s2 s3 : Story) (one two : T) (result : Result T DiskFailed) → birth < 2 ^ 64 → AreSmall most_unpicked s0 → WritesSynced A 0 octets (Ok one) s0 s1 → WritesSynced B 0 octets (Ok two) s1 s2 → WritesSynced Pick 0 (1 ∷ []) result s2 s3
+      → OnOk result (IsKeptBy s3 A birth [] None) × LeavesOnly s0 s3 (IsUnbornOrFresh birth)
+  bears_third s0 s1 s2 s3 one two result fits small first second third =
+      let a = bears_area birth s0 s1 A octets (Ok one) small (omega (arith, ap length same)) first in
+      let b = bears_area birth s1 s2 B octets (Ok two) a.0 (omega (arith, ap length same)) second in
+      let sure_a : IsSure birth [] (past_of s2 A) = sure_other birth s1 s2 A B 0 octets (Ok two) refl second (bears_text birth s0 s1 A (Ok one) fits (at_text A (Ok one) s0 s1 first)) in
+      let sure_b : IsSure birth [] (past_of s2 B) = bears_text birth s1 s2 B (Ok two) fits (at_text B (Ok two) s1 s2 second) in
+      let p = bears_pick birth s2 s3 result fits (fresh_from birth s2 sure_a sure_b b.0) third in
+      (p.0, leaves_both s0 s2 s3 (IsUnbornOrFresh birth) (leaves_both s0 s1 s2 (IsUnbornOrFresh birth) a.1 b.1) p.1)
+
+  told_ok : (result : Result T DiskFailed) (P : Type 0) → OnTrue tells (OnOk result P) → OnOk result (OnTrue tells P)
+  told_ok (Ok done) P is = is
+  told_ok (Err failed) P is = tt
+
+  pub bears_store : (s0 s1 s2 s3 : Story) (one two : T) (result : Result T DiskFailed) → birth < 2 ^ 64 → OnTrue tells (AreSmall most_unpicked s0) → OnTrue tells (WritesSynced A 0 octets (Ok one) s0 s1)
+      → OnTrue tells (WritesSynced B 0 octets (Ok two) s1 s2) → OnTrue tells (WritesSynced Pick 0 (1 ∷ []) result s2 s3)
+      → OnOk result (OnTrue tells (IsKeptBy s3 A birth [] None)) × OnTrue tells (LeavesOnly s0 s3 (IsUnbornOrFresh birth))
+  bears_store s0 s1 s2 s3 one two result fits small first second third = (
+    told_ok result (IsKeptBy s3 A birth [] None) (OnTrue_from tells _ (λ told. (bears_third s0 s1 s2 s3 one two result fits (OnTrue_at told small) (OnTrue_at told first) (OnTrue_at told second) (OnTrue_at told third)).0)),
+    OnTrue_from tells _ (λ told. (bears_third s0 s1 s2 s3 one two result fits (OnTrue_at told small) (OnTrue_at told first) (OnTrue_at told second) (OnTrue_at told third)).1),
+  )
 
 -- ---- an opening
 
@@ -191,4 +227,68 @@ opens_then old mid new first second =
     leaves_both old mid new (λ image. (before : Areas) × IsImage old before × IsLike (stands before) (stands image))
     (leaves_weaker old mid (IsImage old) (λ image. (before : Areas) × IsImage old before × IsLike (stands before) (stands image)) (λ image is. (image, is, inl refl)) first)
     (leaves_weaker mid new (λ image. (before : Areas) × IsImage mid before × IsLike (stands before) (stands image)) (λ image. (before : Areas) × IsImage old before × IsLike (stands before) (stands image))
-        (λ image is. (is.0, leaves_now old mid (IsImage old) first is.0 is.1, is.2)) second)
+    (λ image is. (is.0, leaves_now old mid (IsImage old) first is.0 is.1, is.2)) second)
+
+-- ---- the syncs at the start
+
+module _ {T : Type 0} (tells : Bool) (s0 s1 s2 s3 : Story) (one two : T) (result : Result T DiskFailed) (first : OnTrue tells (Syncs A (Ok one) s0 s1)) (second : OnTrue tells (Syncs B (Ok two) s1 s2)) (third : OnTrue tells (Syncs Pick result s2 s3)) where
+  pub settles_stops : OnTrue tells (LeavesOnly s0 s3 (IsImage s0))
+  settles_stops = OnTrue_from tells _ (λ told. leaves_sync s0 s2 s3 Pick result (IsImage s0)
+      (leaves_sync s0 s1 s2 B (Ok two) (IsImage s0) (leaves_sync s0 s0 s1 A (Ok one) (IsImage s0) (leaves_first s0 (IsImage s0) (λ image is. is)) (OnTrue_at told first)) (OnTrue_at told second)) (OnTrue_at told third))
+
+-- two of them
+pub settles_two : {T : Type 0} (tells : Bool) (s0 s1 s2 : Story) (one result : Result T DiskFailed) → OnTrue tells (Syncs A one s0 s1) → OnTrue tells (Syncs B result s1 s2) → OnTrue tells (LeavesOnly s0 s2 (IsImage s0))
+settles_two tells s0 s1 s2 one result first second = OnTrue_from tells _ (λ told.
+    leaves_sync s0 s1 s2 B result (IsImage s0) (leaves_sync s0 s0 s1 A one (IsImage s0) (leaves_first s0 (IsImage s0) (λ image is. is)) (OnTrue_at told first)) (OnTrue_at told second))
+
+-- ---- a birth
+
+-- a store that isn't born is small, where that is told
+pub told_small : (tells : Bool) (story : Story) → OnTrue tells (AreAtRest story) → OnTrue tells (picked (reads story).pick ≡ None) → OnTrue tells (length (reads story).a ≤ 17) → OnTrue tells (length (reads story).b ≤ 17) → OnTrue tells (AreSmall most_unpicked story)
+told_small tells story rest none a b = OnTrue_from tells _ (λ told. small_rest story (OnTrue_at told rest) (OnTrue_at told none) (OnTrue_at told a) (OnTrue_at told b))
+
+-- nothing is done, which is told
+pub told_same : (tells : Bool) (old new : Story) → new ≡ old → OnTrue tells (OpensOver old new)
+told_same tells old new same = OnTrue_from tells _ (λ told. subst (λ s. OpensOver old s) (sym same) (opens_same old))
+
+-- a store is born
+pub told_born : (tells : Bool) (birth : ℕ) (old mid new : Story) → mid ≡ old → OnTrue tells (stands (reads old) ≡ unborn) → OnTrue tells (LeavesOnly mid new (IsUnbornOrFresh birth)) → OnTrue tells (OpensOver old new)
+told_born tells birth old mid new same none leaves = OnTrue_from tells _ (λ told. opens_unborn old new birth (OnTrue_at told none) (subst (λ s. LeavesOnly s new (IsUnbornOrFresh birth)) same (OnTrue_at told leaves)))
+
+-- and a store may be opened behind syncs
+pub told_then : (tells : Bool) (old mid new : Story) → OnTrue tells (LeavesOnly old mid (IsImage old)) → OnTrue tells (OpensOver mid new) → OnTrue tells (OpensOver old new)
+told_then tells old mid new first second = OnTrue_from tells _ (λ told. opens_then old mid new (OnTrue_at told first) (OnTrue_at told second))
+
+pub told_settled : (tells : Bool) (old new : Story) → OnTrue tells (LeavesOnly old new (IsImage old)) → OnTrue tells (OpensOver old new)
+told_settled tells old new leaves = OnTrue_from tells _ (λ told. opens_then old new new (OnTrue_at told leaves) (opens_same new))
+
+pub told_unborn : (tells : Bool) (story mid : Story) → mid ≡ story → OnTrue tells (picked (reads story).pick ≡ None) → OnTrue tells (length (reads story).a ≤ 17) → OnTrue tells (length (reads mid).b ≤ 17) → OnTrue tells (stands (reads story) ≡ unborn)
+told_unborn tells story mid same none a b = OnTrue_from tells _ (λ told. unborn_small (reads story) (OnTrue_at told none) (OnTrue_at told a) (subst (λ s. length (reads s).b ≤ 17) same (OnTrue_at told b)))
+
+-- ---- what is found
+
+picks_long : (pick : List ℕ) (area : Area) → picked pick ≡ Some area → 1 ≤ length pick
+picks_long [] area is = absurd (cc)
+picks_long (first ∷ rest) area is = omega arith
+
+text_kept : (story : Story) (area : Area) (birth : ℕ) (payloads : List (List ℕ)) → AreAtRest story → picked (reads story).pick ≡ Some area → IsText (octets_of (reads story) area) birth payloads → IsKeptBy story area birth payloads None
+text_kept story area birth payloads rest picks text = record {
+  pick = subst (IsFirm 1) (sym (rest Pick)) (firm_rest 1 (reads story).pick (picks_long (reads story).pick area picks));
+  picks = picks;
+  text = subst (IsSure birth payloads) (sym (rest area)) (text_sure birth payloads (octets_of (reads story) area) text);
+}
+
+-- a text in the picked area of a disk at rest is kept
+pub kept_read : (tells : Bool) (before now : Story) (area : Area) (octets : List ℕ) (birth : ℕ) (payloads : List (List ℕ)) → now ≡ before → IsText octets birth payloads → OnTrue tells (picked (reads before).pick ≡ Some area) → OnTrue tells (AreAtRest before)
+    → OnTrue tells (octets ≡ octets_of (reads before) area) → OnTrue tells (IsKeptBy now area birth payloads None)
+kept_read tells before now area octets birth payloads same text picks rest read = OnTrue_from tells _ (λ told.
+    subst (λ s. IsKeptBy s area birth payloads None) (sym same)
+    (text_kept before area birth payloads (OnTrue_at told rest) (OnTrue_at told picks) (subst (λ (l : List ℕ). IsText l birth payloads) (OnTrue_at told read) text)))
+
+-- and an opening finds it
+pub stood_read : (tells : Bool) (before : Story) (area : Area) (octets : List ℕ) (new birth : ℕ) (payloads : List (List ℕ)) → IsText octets birth payloads → OnTrue tells (picked (reads before).pick ≡ Some area)
+    → OnTrue tells (octets ≡ octets_of (reads before) area) → OnTrue tells (OpensAs (stands (reads before)) new birth area payloads)
+stood_read tells before area octets new birth payloads text picks read = OnTrue_from tells _ (λ told.
+    subst (λ s. OpensAs s new birth area payloads)
+    (sym (stands_text (reads before) area birth payloads (OnTrue_at told picks) (subst (λ (l : List ℕ). IsText l birth payloads) (OnTrue_at told read) text)))
+    (refl, refl, refl))

@@ -71,7 +71,7 @@ gated_text : (birth : ℕ) (payloads : List (List ℕ)) (payload : List ℕ) (ga
 gated_text birth payloads payload gate next behind small sizes size closed =
     ⊎_elim
     (λ is_open. inr (subst (λ g. IsText ((header birth ++ units payloads) ++ g ∷ (counted 4 payload ++ next ∷ behind)) birth (payloads ++ payload ∷ [])) (sym (eqb-true gate 1 is_open))
-        (opened_text birth payloads payload next behind small sizes size closed)))
+    (opened_text birth payloads payload next behind small sizes size closed)))
     (λ is_closed. inl (closed_text birth payloads gate (counted 4 payload ++ next ∷ behind) small sizes is_closed))
     (cases_Bool (eqb gate 1))
 
@@ -279,7 +279,7 @@ pub puts_body : {T : Type 0} (old new : Story) (area : Area) (birth : ℕ) (payl
     → IsKeptBy old area birth payloads None → WritesSynced area (gate_place payloads + 1) bytes result old new → PutsBody old new area birth payloads payload result
 puts_body old new area birth payloads payload bytes result small sizes size are kept commit =
     let kept_mid : IsKeptBy commit.mid area birth payloads None = kept_write old commit.mid area birth payloads None None (gate_place payloads + 1) bytes commit.wrote kept commit.writes payloads
-        (sure_write old commit.mid area birth payloads bytes commit.wrote kept.text commit.writes) in
+    (sure_write old commit.mid area birth payloads bytes commit.wrote kept.text commit.writes) in
     record {
       kept = kept_sync commit.mid new area birth payloads None None result kept_mid commit.syncs payloads (sure_sync commit.mid new area birth payloads result kept_mid.text commit.syncs);
       put = body_put old commit.mid new area birth payloads payload bytes commit.wrote result size are kept kept_mid commit.ok commit.writes commit.syncs;
@@ -301,8 +301,8 @@ gate_rest_text old mid new area birth payloads unsure octet (Ok now) done is goo
     let parts : octets ≡ front ++ is.doubt.reads.0 ∷ rest = unsure_parts birth payloads unsure (past_of old area) octets is is.doubt.reads in
     synced_past mid new area done syncs
     ∙ ap at_rest (wrote_past old mid area (gate_place payloads) (octet ∷ []) now writes
-        ∙ append_assoc (take (gate_place payloads) octets) (octet ∷ []) (drop (gate_place payloads + 1) octets)
-        ∙ other_gate front rest is.doubt.reads.0 octet (gate_place payloads) octets (length-front birth payloads) (parts ∙ sym (append_assoc front (is.doubt.reads.0 ∷ []) rest)))
+    ∙ append_assoc (take (gate_place payloads) octets) (octet ∷ []) (drop (gate_place payloads + 1) octets)
+    ∙ other_gate front rest is.doubt.reads.0 octet (gate_place payloads) octets (length-front birth payloads) (parts ∙ sym (append_assoc front (is.doubt.reads.0 ∷ []) rest)))
 
 -- what such a write leaves where it fails
 pub record WritesGate {T : Type 0} (old new : Story) (area : Area) (birth : ℕ) (payloads : List (List ℕ)) (unsure : List ℕ) (octet : ℕ) (result : Result T DiskFailed) : Type 0 where
@@ -320,8 +320,8 @@ gate_opened old mid new area birth payloads unsure octet write (Ok done) small s
     let rest = counted 4 unsure ++ is.next ∷ is.behind in
     kept_sync mid new area birth payloads (Some unsure) None (Ok done) kept_mid syncs (payloads ++ unsure ∷ [])
     (subst (IsSure birth (payloads ++ unsure ∷ []))
-        (sym (gate_rest_text old mid new area birth payloads unsure octet write done is good writes syncs ∙ ap (λ n. at_rest ((header birth ++ units payloads) ++ n ∷ rest)) is_open))
-        (text_sure birth (payloads ++ unsure ∷ []) ((header birth ++ units payloads) ++ 1 ∷ rest) (opened_text birth payloads unsure is.next is.behind small sizes is.size is.closed)))
+    (sym (gate_rest_text old mid new area birth payloads unsure octet write done is good writes syncs ∙ ap (λ n. at_rest ((header birth ++ units payloads) ++ n ∷ rest)) is_open))
+    (text_sure birth (payloads ++ unsure ∷ []) ((header birth ++ units payloads) ++ 1 ∷ rest) (opened_text birth payloads unsure is.next is.behind small sizes is.size is.closed)))
 
 gate_closed : {T : Type 0} (old mid new : Story) (area : Area) (birth : ℕ) (payloads : List (List ℕ)) (unsure : List ℕ) (octet : ℕ) (write result : Result T DiskFailed) → birth < 2 ^ 64 → All IsPayload payloads → octet ≡ 0
     → IsKeptBy old area birth payloads (Some unsure) → IsKeptBy mid area birth payloads (Some unsure) → OnOk result (IsOk write) → Writes area (gate_place payloads) (octet ∷ []) write old mid → Syncs area result mid new
@@ -332,8 +332,8 @@ gate_closed old mid new area birth payloads unsure octet write (Ok done) small s
     let rest = counted 4 unsure ++ is.next ∷ is.behind in
     kept_sync mid new area birth payloads (Some unsure) None (Ok done) kept_mid syncs payloads
     (subst (IsSure birth payloads)
-        (sym (gate_rest_text old mid new area birth payloads unsure octet write done is good writes syncs ∙ ap (λ n. at_rest ((header birth ++ units payloads) ++ n ∷ rest)) is_closed))
-        (text_sure birth payloads ((header birth ++ units payloads) ++ 0 ∷ rest) (closed_text birth payloads 0 rest small sizes refl)))
+    (sym (gate_rest_text old mid new area birth payloads unsure octet write done is good writes syncs ∙ ap (λ n. at_rest ((header birth ++ units payloads) ++ n ∷ rest)) is_closed))
+    (text_sure birth payloads ((header birth ++ units payloads) ++ 0 ∷ rest) (closed_text birth payloads 0 rest small sizes refl)))
 
 gate_failed : {T : Type 0} (mid new : Story) (area : Area) (birth : ℕ) (payloads : List (List ℕ)) (unsure : List ℕ) (result : Result T DiskFailed) → IsKeptBy mid area birth payloads (Some unsure) → Syncs area result mid new
     → OnErr result (IsKeptBy new area birth payloads (Some unsure))
@@ -349,7 +349,7 @@ pub writes_gate : {T : Type 0} (old new : Story) (area : Area) (birth : ℕ) (pa
     → IsKeptBy old area birth payloads (Some unsure) → WritesSynced area (gate_place payloads) (octet ∷ []) result old new → WritesGate old new area birth payloads unsure octet result
 writes_gate old new area birth payloads unsure octet result small sizes kept commit =
     let kept_mid : IsKeptBy commit.mid area birth payloads (Some unsure) = kept_write old commit.mid area birth payloads (Some unsure) (Some unsure) (gate_place payloads) (octet ∷ []) commit.wrote kept commit.writes payloads
-        (unsure_write old commit.mid area birth payloads unsure octet commit.wrote kept.text commit.writes) in
+    (unsure_write old commit.mid area birth payloads unsure octet commit.wrote kept.text commit.writes) in
     record {
       opened = unless result (octet ≡ 1) (IsKeptBy new area birth (payloads ++ unsure ∷ []) None)
           (λ is. gate_opened old commit.mid new area birth payloads unsure octet commit.wrote result small sizes is kept kept_mid commit.ok commit.writes commit.syncs);

@@ -237,5 +237,5 @@ module _ {D : Type 0} (tells : Bool) (story : D → Story) where
   repair_failed old new birth payloads (Some unsure) (Err failed) (Err told) err err_before is doubt same_left same_birth same_area place end same_unit still commit =
       let shut = gate_shut old (story new.disk) birth payloads unsure (Err told) is commit in
       let now = repaired old new birth payloads (Some unsure) (Some unsure) is same_left same_birth place end same_unit (still ∙ is.doubt)
-          (OnTrue_from tells _ (λ told. subst (λ area. IsKeptBy (story new.disk) area birth payloads (Some unsure)) (sym same_area) (OnTrue_at told shut).failed)) in
+      (OnTrue_from tells _ (λ told. subst (λ area. IsKeptBy (story new.disk) area birth payloads (Some unsure)) (sym same_area) (OnTrue_at told shut).failed)) in
       (now, record { ok = tt; failed = now; stops = OnTrue_from tells _ (λ told. (OnTrue_at told shut).stops) })

@@ -65,3 +65,7 @@ step_far octets place payload behind le is =
 -- no unit at a place
 pub stop : (octets : List ℕ) (place : ℕ) → IsNoUnit (take (length octets - place) (drop place octets)) → payloads_in (drop place octets) ≡ []
 stop octets place none = ap payloads_in (sym (take_rest octets place)) ∙ ap (λ (found : List (List ℕ) × List ℕ). found.0) none
+
+-- a closed gate alone has no payloads
+pub closed_alone : payloads_in (0 ∷ []) ≡ []
+closed_alone = ap (λ (found : List (List ℕ) × List ℕ). found.0) (many_none unit_at (0 ∷ []) (closed_none 0 [] refl))

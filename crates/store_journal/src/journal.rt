@@ -186,7 +186,12 @@ impl<D: Disk> Journal<D> {
         ensures failed { OnErr result (Rose (D.faults (disk_of self.old)) (D.faults (disk_of self.new))) }
         ensures faults { D.faults (disk_of self.old) ≤ D.faults (disk_of self.new) }
     {
-        if let Err(failed) = write_synced(&mut self.disk, self.area, self.end + 1, &self.unit[1..]) {
+        if let Err(failed) = write_synced(
+            &mut self.disk,
+            self.area,
+            self.end + 1,
+            &self.unit[1..],
+        ) {
             self.unit.clear();
             return Err(failed);
         }

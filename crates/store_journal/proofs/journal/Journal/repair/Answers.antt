@@ -13,10 +13,13 @@ returns-in_err-write_synced-clause-repaired g c = λ birth payloads unsure is.
 pub returns-in_err-write_synced-clause-kept : goal.returns-in_err-write_synced-clause-kept
 returns-in_err-write_synced-clause-kept g c =
     let kept = c.requires.kept in
-    let is = kept.3 in
-    (kept.0, kept.1, kept.2,
-        (repair_failed g.D.Disk.tells g.D.Disk.story c.args.self.now _ kept.0 kept.1 kept.2 c.from_residual.result _ c.from_residual.ensures.0 refl is c.if-not-self.false refl refl refl is.place refl refl refl
-        c.in_err-write_synced.ensures.written).0)
+    let is = kept.3 in (
+      kept.0,
+      kept.1,
+      kept.2,
+      (repair_failed g.D.Disk.tells g.D.Disk.story c.args.self.now _ kept.0 kept.1 kept.2 c.from_residual.result _ c.from_residual.ensures.0 refl is c.if-not-self.false refl refl refl is.place refl refl refl
+          c.in_err-write_synced.ensures.written).0,
+    )
 
 pub returns-clause-repaired : goal.returns-clause-repaired
 returns-clause-repaired g c = λ birth payloads unsure is.
