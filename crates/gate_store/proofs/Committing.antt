@@ -33,6 +33,10 @@ use Rattle.gate_store.proofs.Reopened.{may_reopen_in, settle-does}
 use Rattle.gate_store.proofs.Told.{told_leaves_weaker, told_leaves_both}
 use Rattle.gate_store.proofs.Turns.{after_more, in_turn_more, payloads_more}
 
+-- the answer of a call that failed, whatever it would have given
+abbrev pub failed_as : (T : Type 0) → DiskFailed → Result T DiskFailed
+failed_as T failed = Err failed
+
 -- areas that reopen to what is left of a state may do so whatever is unsure
 pub surely : (rules : Rules) (state : State) (unsure : Option Recorded) (areas : Areas) → ReopensTo rules state areas → MayReopen rules state unsure areas
 surely rules state None areas reopens = reopens
@@ -48,7 +52,7 @@ module _ {D : Type 0} (tells : Bool) (story : D → Story) where
 
 module _ {D : Type 0} (tells : Bool) (story : D → Story) (faults calls : D → ℕ) (old new : Store D) where
   -- what was unsure is taken back, or the disk failed
-  module _ (open : IsOpen tells story old) (gate : new.gate ≡ old.gate) (born : birth_in new ≡ birth_in old) (stays : left new.journal ≡ left old.journal)
+  module _ (is_open : IsOpen tells story old) (gate : new.gate ≡ old.gate) (born : birth_in new ≡ birth_in old) (stays : left new.journal ≡ left old.journal)
       (same_reserved : reserved new.journal ≡ reserved old.journal) (kept : faults (disk_in old) ≤ faults (disk_in new))
       (bounded : calls (disk_in new) ≤ calls (disk_in old) + 2) where
 
@@ -65,14 +69,14 @@ module _ {D : Type 0} (tells : Bool) (story : D → Story) (faults calls : D →
         → Repairs tells story old.journal new.journal result birth payloads unsure)
         → OnTrue tells (LeavesOnly (story (disk_in old)) (story (disk_in new)) (MayReopen (rules_in old) (state_in old) (unsure_in old)))
     stops_repaired result repaired =
-        let is = open.2 in
-        told_leaves_weaker tells (story (disk_in old)) (story (disk_in new)) _ _ (λ image holds. reopened_by tells story old open.0 open.1 is image holds)
-        (repaired open.0 (payloads open.1) (option_map entry_octets (unsure_in old)) is.journal).stops
+        let is = is_open.2 in
+        told_leaves_weaker tells (story (disk_in old)) (story (disk_in new)) _ _ (λ image holds. reopened_by tells story old is_open.0 is_open.1 is image holds)
+        (repaired is_open.0 (payloads is_open.1) (option_map entry_octets (unsure_in old)) is.journal).stops
 
     pub settles_ok : {T : Type 0} (done : T)
         → ((birth : ℕ) (payloads : List (List ℕ)) (unsure : Option (List ℕ)) → IsJournal tells story old.journal birth payloads unsure
-        → Repairs tells story old.journal new.journal {T = T} (Ok done) birth payloads unsure)
-        → unsure_in new ≡ None → faults (disk_in new) ≡ faults (disk_in old) → Settles tells story faults calls old {T = T} (Ok done) new
+        → Repairs tells story old.journal new.journal (Ok done) birth payloads unsure)
+        → unsure_in new ≡ None → faults (disk_in new) ≡ faults (disk_in old) → Settles tells story faults calls old (Ok done) new
     settles_ok done repaired sure unfailed = record {
       gate = gate;
       born = born;
@@ -89,8 +93,8 @@ module _ {D : Type 0} (tells : Bool) (story : D → Story) (faults calls : D →
 
     pub settles_err : {T : Type 0} (failed : DiskFailed)
         → ((birth : ℕ) (payloads : List (List ℕ)) (unsure : Option (List ℕ)) → IsJournal tells story old.journal birth payloads unsure
-        → Repairs tells story old.journal new.journal {T = T} (Err failed) birth payloads unsure)
-        → unsure_in new ≡ unsure_in old → Rose (faults (disk_in old)) (faults (disk_in new)) → Settles tells story faults calls old {T = T} (Err failed) new
+        → Repairs tells story old.journal new.journal (failed_as T failed) birth payloads unsure)
+        → unsure_in new ≡ unsure_in old → Rose (faults (disk_in old)) (faults (disk_in new)) → Settles tells story faults calls old (failed_as T failed) new
     settles_err failed repaired same rose = record {
       gate = gate;
       born = born;
@@ -98,7 +102,7 @@ module _ {D : Type 0} (tells : Bool) (story : D → Story) (faults calls : D →
       sure = tt;
       unsure = same;
       holds = λ birth entries is. store_now birth entries (unsure_in old) is same (repaired birth (payloads entries) _ is.journal).failed is.unsure;
-      stops = stops_repaired (Err failed) repaired;
+      stops = stops_repaired (failed_as _ failed) repaired;
       unfailed = tt;
       failed = rose;
       kept = kept;
@@ -106,7 +110,7 @@ module _ {D : Type 0} (tells : Bool) (story : D → Story) (faults calls : D →
     }
 
 module _ {D : Type 0} (tells : Bool) (story : D → Story) (faults calls : D → ℕ) (old new : Store D) (entry : Recorded) where
-  module _ (open : IsOpen tells story old) (none : unsure_in old ≡ None) (is_reserved : reserved old.journal ≡ entry_octets entry) (may : MayRecord old entry)
+  module _ (is_open : IsOpen tells story old) (none : unsure_in old ≡ None) (is_reserved : reserved old.journal ≡ entry_octets entry) (may : MayRecord old entry)
       (few : (state_in old).entries < most_entries) (ruled : rules_in new ≡ rules_in old) (born : birth_in new ≡ birth_in old)
       (handed : IsHandedOut new.journal) (whole : IsGate new.gate) (kept : faults (disk_in old) ≤ faults (disk_in new))
       (bounded : calls (disk_in new) ≤ calls (disk_in old) + 4) where
@@ -119,9 +123,9 @@ module _ {D : Type 0} (tells : Bool) (story : D → Story) (faults calls : D →
         → ((birth : ℕ) (payloads : List (List ℕ)) → IsJournal tells story old.journal birth payloads None → Appends tells story old.journal new.journal result birth payloads)
         → OnTrue tells (LeavesOnly (story (disk_in old)) (story (disk_in new)) (MayReopenIn (rules_in old) (state_in old) (unsure_in old) entry))
     stops_appended result appended =
-        let birth = open.0 in
-        let entries = open.1 in
-        let is = open.2 in
+        let birth = is_open.0 in
+        let entries = is_open.1 in
+        let is = is_open.2 in
         let next = comes_next tells story old birth entries entry is may few in
         let stops = (appended birth (payloads entries) (journal_before birth entries is)).stops in
         subst (λ (u : Option Recorded). OnTrue tells (LeavesOnly (story (disk_in old)) (story (disk_in new)) (MayReopenIn (rules_in old) (state_in old) u entry))) (sym none)
@@ -132,7 +136,7 @@ module _ {D : Type 0} (tells : Bool) (story : D → Story) (faults calls : D →
 
     -- it was appended, and done
     pub commits_ok : {T : Type 0} (done : T) (reply : Reply)
-        → ((birth : ℕ) (payloads : List (List ℕ)) → IsJournal tells story old.journal birth payloads None → Appends tells story old.journal new.journal {T = T} (Ok done) birth payloads)
+        → ((birth : ℕ) (payloads : List (List ℕ)) → IsJournal tells story old.journal birth payloads None → Appends tells story old.journal new.journal (Ok done) birth payloads)
         → unsure_in new ≡ None → state_in new ≡ does (state_in old) (recorded entry) → reply ≡ reply_to (rules_in old) (state_in old) entry
         → faults (disk_in new) ≡ faults (disk_in old) → Commits tells story faults calls 4 old entry (Ok reply) new
     commits_ok done reply appended sure state replied unfailed = record {
@@ -158,7 +162,7 @@ module _ {D : Type 0} (tells : Bool) (story : D → Story) (faults calls : D →
 
     -- the disk failed, and the entry is unsure or stands nowhere
     pub commits_err : {T : Type 0} (failed : DiskFailed) (doubt : Bool)
-        → ((birth : ℕ) (payloads : List (List ℕ)) → IsJournal tells story old.journal birth payloads None → Appends tells story old.journal new.journal {T = T} (Err failed) birth payloads)
+        → ((birth : ℕ) (payloads : List (List ℕ)) → IsJournal tells story old.journal birth payloads None → Appends tells story old.journal new.journal (failed_as T failed) birth payloads)
         → is_unsure new.journal ≡ doubt → unsure_in new ≡ (if doubt then Some entry else None) → state_in new ≡ state_in old
         → Rose (faults (disk_in old)) (faults (disk_in new)) → Commits tells story faults calls 4 old entry (Err failed) new
     commits_err failed doubt appended is_doubt now state rose = record {
@@ -175,7 +179,7 @@ module _ {D : Type 0} (tells : Bool) (story : D → Story) (faults calls : D →
           (subst (λ b. IsJournal tells story new.journal birth (payloads entries) (if b then Some (reserved old.journal) else None)) is_doubt
           (appended birth (payloads entries) (journal_before birth entries is)).failed))
           handed is.in_turn (next_in_doubt doubt entries (comes_next tells story old birth entries entry is may few)) whole (ap settle state ∙ is.state));
-      stops = stops_appended (Err failed) appended;
+      stops = stops_appended (failed_as _ failed) appended;
       unfailed = tt;
       failed = rose;
       kept = kept;

@@ -21,13 +21,13 @@ use Rattle.gate_store.specs.Reopening.{MayReopen, MayReopenIn}
 use Rattle.gate_store.specs.Store.{IsStore, disk_in, birth_in, rules_in, state_in, unsure_in}
 use Rattle.gate_store.specs.StoreSteps.{Commits, Settles}
 use Rattle.gate_store.specs.declared.store.Store.{Store}
-use Rattle.gate_store.proofs.Committing.{surely}
+use Rattle.gate_store.proofs.Committing.{failed_as, surely}
 use Rattle.std.proofs.lemmas.List.{append-nil}
 use Rattle.gate_store.proofs.Told.{told_leaves_weaker, told_leaves_both}
 
 module _ {D : Type 0} (tells : Bool) (story : D → Story) (faults calls : D → ℕ) (old mid new : Store D) (entry : Recorded) where
   -- the disk failed before anything was appended
-  pub commits_not : {T : Type 0} (failed : DiskFailed) → Settles tells story faults calls old {T = T} (Err failed) new
+  pub commits_not : {T : Type 0} (failed : DiskFailed) → Settles tells story faults calls old (failed_as T failed) new
       → Commits tells story faults calls 6 old entry (Err failed) new
   commits_not failed settles = record {
     reply = tt;
@@ -65,7 +65,7 @@ module _ {D : Type 0} (tells : Bool) (story : D → Story) (faults calls : D →
   unsure_behind (Err failed) sure now = ⊎_elim (λ same. inr (inl (same ∙ sure))) (λ other. inr other) now
 
   -- what was unsure was taken back, and then the entry was appended, or the disk failed
-  pub commits_behind : {T : Type 0} (done : T) (outcome : Result Reply DiskFailed) → Settles tells story faults calls old {T = T} (Ok done) mid
+  pub commits_behind : {T : Type 0} (done : T) (outcome : Result Reply DiskFailed) → Settles tells story faults calls old (Ok done) mid
       → Commits tells story faults calls 4 mid entry outcome new → Commits tells story faults calls 6 old entry outcome new
   commits_behind done outcome settles commits =
       let ruled : rules_in mid ≡ rules_in old = ap rules_of settles.gate in

@@ -1,5 +1,5 @@
 -- Loading a store: the entries that were handed out so far.
-use Rattle.std.proofs.Common.{◌≡◌, ℕ, ◌+◌, length, Bool, Option, Some, None, Ok, List, [], ◌∷◌, ◌++◌, refl, ap, sym, ◌∙◌, append_assoc, subst}
+use Rattle.std.proofs.Common.{◌≡◌, ℕ, ◌+◌, length, Bool, Option, Some, None, Ok, List, [], ◌∷◌, ◌++◌, refl, ap, sym, ◌∙◌, append_assoc, subst, arith}
 use Rattle.std.proofs.lemmas.List.{append-nil}
 use Rattle.gate_entries.specs.declared.recorded.Recorded.{Recorded}
 use Rattle.gate_entries.specs.Entry.{entry_octets}
@@ -10,11 +10,19 @@ use Rattle.gate_model.specs.State.{State}
 use Rattle.gate_model.specs.declared.loader.Loader.{Loader}
 use Rattle.route_rules.specs.declared.rules.Rules.{Rules}
 use Rattle.store_disk.specs.Story.{Story}
-use Rattle.store_journal.specs.Area.{gate_place}
+use Rattle.store_journal.specs.Area.{gate_place, unit}
+use Rattle.store_journal.proofs.Keeping.{gate_more}
 use Rattle.store_journal.specs.Journal.{IsJournal, HoldsSame, Hands, MovesOn, disk_of, area_of, birth_of, left, gate_of, next_gate}
 use Rattle.store_journal.specs.declared.journal.Journal.{Journal}
 use Rattle.gate_store.specs.Entries.{payloads, start, state_of, AreInTurn, StopsAt}
 use Rattle.gate_store.proofs.Turns.{after_more, in_turn_more, payloads_more}
+
+-- the closed gate moves on by a unit
+gate_place_more : (there : List (List ℕ)) (payload : List ℕ) → gate_place (there ++ payload ∷ []) ≡ gate_place there + 5 + length payload
+gate_place_more there payload =
+    let size : length (unit payload) ≡ 5 + length payload = omega arith in
+    let more : gate_place (there ++ payload ∷ []) ≡ gate_place there + length (unit payload) = gate_more there payload in
+    omega (arith, more, size)
 
 -- The entries so far are those in front of what is left to hand out, each in its turn, and the loader has read them.
 pub record HasLoaded {D : Type 0} (tells : Bool) (story : D → Story) (rules : Rules) (first now : Journal D) (loader : Loader) : Type 0 where

@@ -22,7 +22,7 @@ use Rattle.store_disk.specs.Story.{Story, IsImage, LeavesOnly}
 use Rattle.store_disk.specs.declared.disk.DiskFailed.{DiskFailed}
 use Rattle.store_journal.specs.Journal.{IsJournal, IsHandedOut, HoldsSame, MayHold, area_of, left}
 use Rattle.store_journal.specs.declared.journal.Journal.{Journal}
-use Rattle.store_journal.proofs.Holding.{may_hold_now}
+use Rattle.store_journal.proofs.Kept.{holds}
 use Rattle.gate_store.specs.Deeds.{Performs, LeavesUnsure, IsReason, CountsFault, is_by_disk, is_disk, put_behind, state_behind}
 use Rattle.gate_store.specs.Entries.{payloads, start, state_of, AreInTurn}
 use Rattle.gate_store.specs.Reopening.{MayReopen, MayReopenIn}
@@ -73,7 +73,7 @@ module _ {D : Type 0} (tells : Bool) (story : D → Story) where
   pub stops_now : (store : Store D) (birth : ℕ) (entries : List Recorded) → IsStore tells story store birth entries
       → OnTrue tells ((image : Areas) → IsImage (story (disk_in store)) image → MayReopen (rules_in store) (state_in store) (unsure_in store) image)
   stops_now store birth entries is =
-      told_weaker tells _ _ (λ holds image now. reopened_by store birth entries is image (holds image now)) (may_hold_now tells story store.journal birth (payloads entries) _ is.journal)
+      told_weaker tells _ _ (λ may image now. reopened_by store birth entries is image (may image now)) (holds tells story store.journal birth (payloads entries) _ is.journal)
 
 -- an entry that wasn't done for want of something else than the disk leaves unsure what was
 unsure_kept : (before now : Option Recorded) (kept : Recorded) (why : Refusal) → is_disk why ≡ false → now ≡ before → LeavesUnsure before kept (Err why) now
@@ -88,9 +88,9 @@ module _ {D : Type 0} (tells : Bool) (story : D → Story) (faults calls : D →
       → rules_in new ≡ rules_in old → birth_in new ≡ birth_in old → state_in new ≡ state_in old → unsure_in new ≡ unsure_in old → disk_in new ≡ disk_in old
       → ((birth : ℕ) (entries : List Recorded) → IsStore tells story old birth entries → IsStore tells story new birth entries)
       → IsOpen tells story old → Performs tells story faults calls old kept (Err why) new
-  unmoved old new kept why other reason ruled born state unsure disk holds open =
+  unmoved old new kept why other reason ruled born state unsure disk holds is_open =
       let none = told_leaves_none tells (story (disk_in old)) (MayReopenIn (rules_in old) (state_in old) (unsure_in old) kept)
-          (told_weaker tells _ _ (λ now image is. inl (now image is)) (stops_now tells story old open.0 open.1 open.2)) in
+          (told_weaker tells _ _ (λ now image is. inl (now image is)) (stops_now tells story old is_open.0 is_open.1 is_open.2)) in
       record {
         reason = reason;
         ruled = ruled;
@@ -106,9 +106,9 @@ module _ {D : Type 0} (tells : Bool) (story : D → Story) (faults calls : D →
   -- an entry that the model refuses
   pub refused : (store : Store D) (kept : Recorded) (why : Refusal) → IsOpen tells story store → refusal (rules_in store) (state_in store) kept ≡ Some why
       → Performs tells story faults calls store kept (Err why) store
-  refused store kept why open is =
+  refused store kept why is_open is =
       let named = reason_named (rules_in store) (state_in store) kept why is in
-      unmoved store store kept why named.1 named.0 refl refl refl refl refl (λ birth entries held. held) open
+      unmoved store store kept why named.1 named.0 refl refl refl refl refl (λ birth entries held. held) is_open
 
   -- a store whose gate took memory holds what it held
   pub prepared_on : (old new : Store D) → new ≡ record old { gate = new.gate } → KeepsAll old.gate new.gate
@@ -122,8 +122,8 @@ module _ {D : Type 0} (tells : Bool) (story : D → Story) (faults calls : D →
   -- an entry for which there was no memory, by what the store became
   pub unremembered : (old new : Store D) (kept : Recorded) → IsOpen tells story old → new ≡ record old { gate = new.gate } → KeepsAll old.gate new.gate
       → refusal (rules_in old) (state_in old) kept ≡ None → Performs tells story faults calls old kept (Err Memory) new
-  unremembered old new kept open same keeps taken =
-      unmoved old new kept Memory refl taken keeps.rules (ap birth_in same) keeps.holds (ap unsure_in same) (ap disk_in same) (prepared_on old new same keeps) open
+  unremembered old new kept is_open same keeps taken =
+      unmoved old new kept Memory refl taken keeps.rules (ap birth_in same) keeps.holds (ap unsure_in same) (ap disk_in same) (prepared_on old new same keeps) is_open
 
   -- an entry that was performed on a store that took memory before, and holds what it held
   pub performed_on : (old mid new : Store D) (kept : Recorded) (outcome : Result Reply Refusal)

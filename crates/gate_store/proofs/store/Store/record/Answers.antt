@@ -1,0 +1,25 @@
+use Rattle.std.proofs.Common.{refl, subst}
+use Rattle.gate_entries.specs.declared.recorded.Recorded.{Recorded}
+use Rattle.gate_store.specs.Deeds.{Performs}
+use Rattle.gate_store.proofs.Recording.{performed_on, prepared_on, unremembered}
+use Rattle.gate_store.proofs.store.Store.record.Goals as goal
+
+pub commit-requires-clause-kept : goal.commit-requires-clause-kept
+commit-requires-clause-kept g c =
+    let old = c.args.self.now in
+    let mid = record old { gate = c.prepare.new.self } in
+    let kept = c.requires.kept in
+    (kept.0, kept.1, prepared_on g.D.Disk.tells g.D.Disk.story g.D.Disk.faults g.D.Disk.calls old mid refl c.in-Ok.ensures.state kept.0 kept.1 kept.2)
+
+pub returns-in-Ok : goal.returns-in-Ok
+returns-in-Ok g c =
+    let tells = g.D.Disk.tells in
+    let story = g.D.Disk.story in
+    let faults = g.D.Disk.faults in
+    let calls = g.D.Disk.calls in
+    let old = c.args.self.now in
+    let mid = record old { gate = c.prepare.new.self } in
+    let new = c.commit.new.self in
+    let keeps = c.in-Ok.ensures.state in
+    let done = subst (λ (kept : Recorded). Performs tells story faults calls mid kept c.commit.result new) c.in-Ok.ensures.entry c.commit.ensures in
+    performed_on tells story faults calls old mid new c.args.entry c.commit.result keeps.rules refl keeps.holds refl refl (prepared_on tells story faults calls old mid refl keeps) done
