@@ -9,7 +9,7 @@ use Rattle.store_disk.specs.Story.{Story, IsImage}
 use Rattle.store_disk.specs.declared.area.Area.{Area}
 use Rattle.store_journal.specs.Area.{born, stands}
 use Rattle.store_journal.specs.Journal.{MayHold, area_of}
-use Rattle.store_journal.proofs.Keeping.{may_hold_now}
+use Rattle.store_journal.proofs.Kept.{holds}
 use Rattle.gate_store.specs.Entries.{payloads, StandsFor}
 use Rattle.gate_store.specs.Reopening.{MayStandFor}
 use Rattle.gate_store.specs.Store.{IsStore, disk_in, unsure_in}
@@ -34,5 +34,5 @@ module _ {D : Type 0} (tells : Bool) (story : D → Story) where
   pub stands_now : (store : Store D) (birth : ℕ) (entries : List Recorded) → IsStore tells story store birth entries
       → OnTrue tells ((image : Areas) → IsImage (story (disk_in store)) image → MayStandFor birth entries (unsure_in store) image)
   stands_now store birth entries is =
-      told_weaker tells _ _ (λ holds image now. may_stand_for birth (area_of store.journal) entries (unsure_in store) image (holds image now))
-      (may_hold_now tells story store.journal birth (payloads entries) _ is.journal)
+      told_weaker tells _ _ (λ held image now. may_stand_for birth (area_of store.journal) entries (unsure_in store) image (held image now))
+      (holds tells story store.journal birth (payloads entries) _ is.journal)
