@@ -1,17 +1,21 @@
-//! The journal over disks: what an opening finds, what an append leaves, and each disk call failing in turn.
+//! The journal over disks: what an opening finds, what an append leaves, each disk call failing in turn, and a stop in each.
 
 ghost use Rattle.std.specs.Prelude.{IsTrue, OnOk};
 ghost use Rattle.store_journal.specs.Area.{IsPayload};
 ghost use Rattle.store_journal.specs.Journal.{IsHandedOut, IsKept};
 
-use kn_base::{Memory, Octets, write_decimal};
-use line_cases::{both, cut_at, cut_item, number, octets_of, put_named, put_new, put_text};
+use crate::stops::{CHOICES, failing_disk_of};
+use kn_base::{Memory, Octets};
+use line_cases::{both, cut_at, cut_item, octets_of, put_named, put_new, put_text};
 use std::alloc::Global;
 use store_disk::{Area, Disk, MemDisk};
 use store_journal::{Journal, OpenFault};
 
 /// The birth of the stores that are born here.
 const BIRTH: u64 = 0x0102030405060708;
+
+/// The birth under which a store is opened behind a stop, so that one which wasn't born is told from one that was.
+const OTHER_BIRTH: u64 = 5;
 
 /// The most octets of a payload.
 const MOST: usize = 16_777_216;
@@ -20,12 +24,12 @@ const MOST: usize = 16_777_216;
 const MOST_CALLS: u64 = 1_000;
 
 /// What became of an opening, and of the append behind it, if there was one: the fault, whether it came in the append,
-/// whether the journal was broken then, and the birth of the store.
+/// whether the payload was unsure then, and the birth of the store.
 #[derive(Clone, Copy)]
 struct Ran {
     fault: Option<OpenFault>,
     in_append: bool,
-    broken: bool,
+    unsure: bool,
     birth: u64,
 }
 
@@ -34,7 +38,7 @@ fn unopened(fault: OpenFault) -> Ran {
     Ran {
         fault: Some(fault),
         in_append: false,
-        broken: false,
+        unsure: false,
         birth: 0,
     }
 }
@@ -58,19 +62,19 @@ fn put_ran(report: &mut Octets, ran: Ran) -> Result<(), Memory> {
         None => put_named(report, b"good, born ", ran.birth)?,
         Some(fault) => put_open_fault(report, fault)?,
     }
-    report.extend_from_slice(match (ran.in_append, ran.broken) {
+    report.extend_from_slice(match (ran.in_append, ran.unsure) {
         (false, false) => b" | ",
         (true, false) => b" in append | ",
-        (false, true) => b", broken | ",
-        (true, true) => b" in append, broken | ",
+        (false, true) => b", unsure | ",
+        (true, true) => b" in append, unsure | ",
     })
 }
 
 /// The payloads that are left, each with a bar behind it.
 fn hand_out<D: Disk>(alloc: Global, journal: &mut Journal<D>) -> Result<Octets, Memory>
-    requires { IsKept D.tells D.contents journal.old }
+    requires { IsKept D.tells D.story journal.old }
     ensures ended { OnOk result (IsHandedOut journal.new) }
-    ensures kept { OnOk result (IsKept D.tells D.contents journal.new) }
+    ensures kept { OnOk result (IsKept D.tells D.story journal.new) }
 {
     let mut all = Octets::new(alloc);
     'payloads: loop {
@@ -93,7 +97,7 @@ fn open<D: Disk>(alloc: Global, disk: D) -> (D, Ran) {
             let ran = Ran {
                 fault: None,
                 in_append: false,
-                broken: journal.is_broken(),
+                unsure: journal.unsure(),
                 birth,
             };
             (journal.close(), ran)
@@ -109,14 +113,30 @@ fn is_payload(octets: &[u8]) -> bool
     1 <= octets.len() && octets.len() <= MOST
 }
 
-/// Appends a payload.
-fn append_to<D: Disk>(journal: &mut Journal<D>, payload: &[u8]) -> Result<Ran, Memory>
-    requires kept { IsKept D.tells D.contents journal.old }
+/// Repairs what is unsure, and appends a payload. Whether both were good.
+fn append_after<D: Disk>(journal: &mut Journal<D>, payload: &[u8]) -> Result<bool, Memory>
+    requires kept { IsKept D.tells D.story journal.old }
     requires ended { IsHandedOut journal.old }
     requires size { IsPayload payload.now }
+    ensures kept { OnOk result (IsKept D.tells D.story journal.new) }
+    ensures ended { OnOk result (IsHandedOut journal.new) }
 {
+    if journal.repair().is_err() {
+        return Ok(false);
+    }
     journal.reserve(payload)?;
-    let in_append = journal.append().is_err();
+    Ok(journal.append().is_ok())
+}
+
+/// Appends a payload.
+fn append_to<D: Disk>(journal: &mut Journal<D>, payload: &[u8]) -> Result<Ran, Memory>
+    requires kept { IsKept D.tells D.story journal.old }
+    requires ended { IsHandedOut journal.old }
+    requires size { IsPayload payload.now }
+    ensures kept { OnOk result (IsKept D.tells D.story journal.new) }
+    ensures ended { OnOk result (IsHandedOut journal.new) }
+{
+    let in_append = !append_after(journal, payload)?;
     Ok(Ran {
         fault: if in_append {
             Some(OpenFault::Disk)
@@ -124,13 +144,35 @@ fn append_to<D: Disk>(journal: &mut Journal<D>, payload: &[u8]) -> Result<Ran, M
             None
         },
         in_append,
-        broken: journal.is_broken(),
+        unsure: journal.unsure(),
         birth: journal.birth(),
     })
 }
 
-/// Opens a store and appends one payload to it. What can't be a payload is a want of memory.
-fn append<D: Disk + Drop>(alloc: Global, disk: D, payload: &[u8]) -> Result<(D, Ran), Memory> {
+/// Appends a payload, and where that failed, once more.
+fn append_again<D: Disk>(
+    journal: &mut Journal<D>,
+    payload: &[u8],
+    again: bool,
+) -> Result<Ran, Memory>
+    requires kept { IsKept D.tells D.story journal.old }
+    requires ended { IsHandedOut journal.old }
+    requires size { IsPayload payload.now }
+{
+    let ran = append_to(journal, payload)?;
+    if again && ran.in_append {
+        append_after(journal, payload)?;
+    }
+    Ok(ran)
+}
+
+/// Opens a store and appends one payload to it, and where that failed, maybe once more. What can't be a payload is a want of memory.
+fn append<D: Disk + Drop>(
+    alloc: Global,
+    disk: D,
+    payload: &[u8],
+    again: bool,
+) -> Result<(D, Ran), Memory> {
     if !is_payload(payload) {
         return Err(Memory);
     }
@@ -139,7 +181,7 @@ fn append<D: Disk + Drop>(alloc: Global, disk: D, payload: &[u8]) -> Result<(D, 
         Err((disk, fault)) => return Ok((disk, unopened(fault))),
     };
     hand_out(alloc, &mut journal)?;
-    let ran = append_to(&mut journal, payload)?;
+    let ran = append_again(&mut journal, payload, again)?;
     Ok((journal.close(), ran))
 }
 
@@ -155,12 +197,13 @@ fn payloads<D: Disk + Drop>(alloc: Global, disk: D) -> Result<(D, Octets), Memor
 
 /// Appends so many payloads of 66 octets.
 fn append_many<D: Disk>(journal: &mut Journal<D>, count: u8) -> Result<(), OpenFault>
-    requires kept { IsKept D.tells D.contents journal.old }
+    requires kept { IsKept D.tells D.story journal.old }
     requires ended { IsHandedOut journal.old }
 {
     for number in 0..count {
-        journal.reserve(&[number; 66])?;
-        journal.append()?;
+        if !append_after(journal, &[number; 66])? {
+            return Err(OpenFault::Disk);
+        }
     }
     Ok(())
 }
@@ -171,7 +214,7 @@ fn with_many<D: Disk + Drop>(
     journal: Journal<D>,
     count: u8,
 ) -> Result<(D, bool), Memory>
-    requires { IsKept D.tells D.contents journal }
+    requires { IsKept D.tells D.story journal }
 {
     let mut journal = journal;
     hand_out(alloc, &mut journal)?;
@@ -275,7 +318,7 @@ fn put_append<D: Disk + Drop>(
     report: &mut Octets,
 ) -> Result<D, Memory> {
     let payload = octets_of(alloc, payload)?;
-    let (disk, ran) = append(alloc, disk, payload.as_slice())?;
+    let (disk, ran) = append(alloc, disk, payload.as_slice(), false)?;
     put_ran(report, ran)?;
     Ok(disk)
 }
@@ -365,15 +408,9 @@ pub fn put_store(alloc: Global, text: &[u8], report: &mut Octets) -> Result<(), 
     put_disk(report, &disk, shown)
 }
 
-/// Puts last what a run of an append left whose call of a number was to fail: its outcome, the faults, how many calls were made
-/// from that one on, and where the append failed, the octet at the place of its gate.
-fn put_failing(
-    report: &mut Octets,
-    disk: &MemDisk,
-    ran: Ran,
-    call: u64,
-    gate: usize,
-) -> Result<(), Memory> {
+/// Puts last what a run of an append left whose call of a number was to fail: its outcome, the faults, and how many calls were made
+/// from that one on.
+fn put_failing(report: &mut Octets, disk: &MemDisk, ran: Ran, call: u64) -> Result<(), Memory> {
     report.extend_from_slice(b"    ")?;
     match ran.fault {
         None => report.extend_from_slice(b"good | ")?,
@@ -381,18 +418,12 @@ fn put_failing(
     }
     put_named(report, b"faults ", disk.faults())?;
     put_named(report, b" | calls ", disk.calls().wrapping_sub(call))?;
-    if ran.in_append {
-        report.extend_from_slice(b" | gate ")?;
-        write_decimal(
-            report,
-            u64::from(disk.area(Area::A).get(gate).copied().unwrap_or(9)),
-        )?;
-    }
-    Ok(())
+    report.extend_from_slice(b" | ")
 }
 
-/// `each A | B | PICK | PAYLOAD GATE`: an append to a disk with these areas, each call of which fails in turn, until none is left to
-/// fail. Runs that come to the same one after the other are one line.
+/// `each A | B | PICK | PAYLOAD`: an append to a disk with these areas, each call of which fails in turn, until none is left to
+/// fail; where it was one of the append, the same journal appends once more. What stands in the end is listed. Runs that come to the same
+/// one after the other are one line.
 pub fn put_each(alloc: Global, text: &[u8], report: &mut Octets) -> Result<(), Memory> {
     let mut last = Octets::new(alloc);
     for call in 0..MOST_CALLS {
@@ -407,10 +438,75 @@ pub fn put_each(alloc: Global, text: &[u8], report: &mut Octets) -> Result<(), M
 
 /// The line of a run whose call of a number fails, and whether one did.
 fn failing_line(alloc: Global, text: &[u8], call: u64) -> Result<(Octets, bool), Memory> {
-    let (disk, text) = disk_of(alloc, text, &[call])?;
-    let (payload, gate) = cut_at(text, b' ');
-    let (disk, ran) = append(alloc, disk, payload)?;
+    let (disk, payload) = disk_of(alloc, text, &[call])?;
+    let (disk, ran) = append(alloc, disk, payload, true)?;
     let mut line = Octets::new(alloc);
-    put_failing(&mut line, &disk, ran, call, number(gate) as usize)?;
+    put_failing(&mut line, &disk, ran, call)?;
+    let closed = disk.stopped(alloc, disk.calls(), 0)?;
+    let _disk = put_payloads(alloc, closed, false, &mut line)?;
     Ok((line, ran.fault.is_some()))
+}
+
+/// Appends the words to a journal, one by one, whether the one before was good or failed.
+fn append_words<D: Disk>(journal: &mut Journal<D>, words: &[u8]) -> Result<(), Memory>
+    requires kept { IsKept D.tells D.story journal.old }
+    requires ended { IsHandedOut journal.old }
+{
+    let mut rest = words;
+    for _ in 0..words.len() {
+        let (word, behind) = cut_at(rest, b' ');
+        rest = behind;
+        if is_payload(word) {
+            append_after(journal, word)?;
+        }
+    }
+    Ok(())
+}
+
+/// Opens the store on a disk, appends the words, and closes it.
+fn with_words<D: Disk + Drop>(alloc: Global, disk: D, words: &[u8]) -> Result<D, Memory> {
+    let mut journal = match Journal::open(alloc, disk, BIRTH) {
+        Ok(journal) => journal,
+        Err((disk, _fault)) => return Ok(disk),
+    };
+    hand_out(alloc, &mut journal)?;
+    append_words(&mut journal, words)?;
+    Ok(journal.close())
+}
+
+/// Puts last the birth and the payloads of the store on a disk, or why it can't be opened.
+fn put_found<D: Disk + Drop>(alloc: Global, disk: D, report: &mut Octets) -> Result<(), Memory> {
+    let mut journal = match Journal::open(alloc, disk, OTHER_BIRTH) {
+        Ok(journal) => journal,
+        Err((_disk, fault)) => return put_open_fault(report, fault),
+    };
+    put_named(report, b"", journal.birth())?;
+    report.push(b':')?;
+    let all = hand_out(alloc, &mut journal)?;
+    put_text(report, all.as_slice())
+}
+
+/// The line of the stops in one call: what the next opening finds by each choice.
+fn put_stop(alloc: Global, disk: &MemDisk, call: u64, report: &mut Octets) -> Result<(), Memory> {
+    put_named(report, b"    ", call)?;
+    for choice in &CHOICES {
+        report.extend_from_slice(b" | ")?;
+        let stopped = disk.stopped(alloc, call, *choice)?;
+        put_found(alloc, stopped, report)?;
+    }
+    report.push(b'\n')
+}
+
+/// `stopped A | B | PICK | FAILING .. | PAYLOADS ..`: the store on a disk is opened, and payloads are appended, each behind a repair where
+/// that is wanted; how many calls that were and how many failed, and what an opening finds behind a stop in each call.
+pub fn put_stopped(alloc: Global, text: &[u8], report: &mut Octets) -> Result<(), Memory> {
+    let (disk, words) = failing_disk_of(alloc, text)?;
+    let disk = with_words(alloc, disk, words)?;
+    put_named(report, b"    calls ", disk.calls())?;
+    put_named(report, b", faults ", disk.faults())?;
+    report.push(b'\n')?;
+    for call in 0..disk.calls() {
+        put_stop(alloc, &disk, call, report)?;
+    }
+    put_stop(alloc, &disk, disk.calls(), report)
 }

@@ -38,6 +38,9 @@ impl<R: Runtime + Files<File = File> + Alloc + Copy> Cases for BaseCases<R> {
         if kind == b"stops".as_slice() {
             return stops::put_stops(alloc, text, report);
         }
+        if kind == b"stopped".as_slice() {
+            return journal::put_stopped(alloc, text, report);
+        }
         report.extend_from_slice(b"    ")?;
         put_case(self.rt, alloc, kind, text, report)?;
         report.push(b'\n')

@@ -8,7 +8,7 @@ use std::alloc::Global;
 use store_disk::{Area, Disk, DiskFailed, MemDisk};
 
 /// What is chosen for what a stop leaves in doubt.
-static CHOICES: [u8; 3] = [0, 1, 0xFF];
+pub static CHOICES: [u8; 3] = [0, 1, 0xFF];
 
 /// Calls of a disk, each a word: `write:AREA:AT:OCTETS`, `cut:AREA:SIZE`, `sync:AREA`, `size:AREA` and `read:AREA:AT`, which reads two octets.
 #[derive(Drop)]
@@ -98,7 +98,7 @@ fn put_held(report: &mut Octets, disk: &MemDisk) -> Result<(), Memory> {
 }
 
 /// The disk whose areas and failing calls a text begins with, and what stands behind them.
-fn disk_of(alloc: Global, text: &[u8]) -> Result<(MemDisk, &[u8]), Memory> {
+pub fn failing_disk_of(alloc: Global, text: &[u8]) -> Result<(MemDisk, &[u8]), Memory> {
     let (a, text) = cut_item(text);
     let (b, text) = cut_item(text);
     let (pick, text) = cut_item(text);
@@ -112,7 +112,7 @@ fn disk_of(alloc: Global, text: &[u8]) -> Result<(MemDisk, &[u8]), Memory> {
 /// `stops A | B | PICK | FAILING .. | CALLS ..`: what calls of a disk with these areas answer, what it holds and has counted then, and
 /// what a stop in each call leaves by each choice, and one in a call that wasn't made.
 pub fn put_stops(alloc: Global, text: &[u8], report: &mut Octets) -> Result<(), Memory> {
-    let (disk, calls) = disk_of(alloc, text)?;
+    let (disk, calls) = failing_disk_of(alloc, text)?;
     let mut on = DiskActs { disk };
     report.extend_from_slice(b"    ")?;
     put_acts(alloc, &mut on, calls, report)?;
