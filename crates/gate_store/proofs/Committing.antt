@@ -21,6 +21,7 @@ use Rattle.store_disk.specs.Disk.{Areas}
 use Rattle.store_disk.specs.Story.{Story, LeavesOnly}
 use Rattle.store_disk.specs.declared.disk.DiskFailed.{DiskFailed}
 use Rattle.store_journal.specs.Journal.{IsJournal, IsHandedOut, Appends, Repairs, MayHold, area_of, is_unsure, left, reserved}
+use Rattle.store_journal.specs.declared.journal.Journal.{Journal}
 use Rattle.gate_store.specs.Deeds.{Performs}
 use Rattle.gate_store.specs.Entries.{payloads, start, state_of}
 use Rattle.gate_store.specs.Reopening.{ReopensTo, MayReopen, MayReopenIn}
@@ -43,6 +44,18 @@ surely rules state None areas reopens = reopens
 surely rules state (Some kept) areas reopens = inl reopens
 
 module _ {D : Type 0} (tells : Bool) (story : D → Story) where
+  -- what an append does by its answer
+  pub appends_as : {T : Type 0} (old new : Journal D) (result answer : Result T DiskFailed) → result ≡ answer
+      → ((birth : ℕ) (there : List (List ℕ)) → IsJournal tells story old birth there None → Appends tells story old new result birth there)
+      → (birth : ℕ) (there : List (List ℕ)) → IsJournal tells story old birth there None → Appends tells story old new answer birth there
+  appends_as old new result answer is appended birth there held = subst (λ r. Appends tells story old new r birth there) is (appended birth there held)
+
+  -- and what a repair does
+  pub repairs_as : {T : Type 0} (old new : Journal D) (result answer : Result T DiskFailed) → result ≡ answer
+      → ((birth : ℕ) (there : List (List ℕ)) (unsure : Option (List ℕ)) → IsJournal tells story old birth there unsure → Repairs tells story old new result birth there unsure)
+      → (birth : ℕ) (there : List (List ℕ)) (unsure : Option (List ℕ)) → IsJournal tells story old birth there unsure → Repairs tells story old new answer birth there unsure
+  repairs_as old new result answer is repaired birth there unsure held = subst (λ r. Repairs tells story old new r birth there unsure) is (repaired birth there unsure held)
+
   -- an entry that may be recorded may come next behind those that a store holds
   pub comes_next : (store : Store D) (birth : ℕ) (entries : List Recorded) (kept : Recorded) → IsStore tells story store birth entries → MayRecord store kept
       → (state_in store).entries < most_entries → ComesNext (state_of (rules_in store) entries) (entry_octets kept) kept

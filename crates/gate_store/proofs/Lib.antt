@@ -1,8 +1,10 @@
 pub mod Commits
 pub mod Committing
 pub mod Composing
+pub mod Counting
 pub mod Handed
 pub mod Loading
+pub mod Passing
 pub mod Recording
 pub mod Refusals
 pub mod Reopened

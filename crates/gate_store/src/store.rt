@@ -4,17 +4,17 @@ ghost use Rattle.std.specs.Prelude.{◌≡◌, ◌<◌, ◌≤◌, ◌+◌, ◌^
 ghost use Rattle.std.specs.Bool.{OnTrue};
 ghost use Rattle.gate_entries.specs.Entry.{entry_octets};
 ghost use Rattle.gate_entries.specs.declared.recorded.Recorded.{Recorded};
-ghost use Rattle.gate_model.specs.Fates.{HaveFates};
+ghost use Rattle.gate_model.specs.Fates.{AddUp, HaveFates};
 ghost use Rattle.gate_model.specs.Fold.{recorded};
 ghost use Rattle.gate_model.specs.Gate.{entry_of as prepared, HasRoom, KeepsAll};
 ghost use Rattle.gate_model.specs.Lawful.{refusal, most_entries, MayPass};
 ghost use Rattle.gate_model.specs.State.{totals_of};
 ghost use Rattle.store_disk.specs.Disk.{Areas};
-ghost use Rattle.store_disk.specs.Story.{IsImage, LeavesOnly};
+ghost use Rattle.store_disk.specs.Story.{IsImage};
 ghost use Rattle.store_journal.specs.Journal.{reserved};
 ghost use Rattle.gate_store.specs.Deeds.{Performs, Passes};
 ghost use Rattle.gate_store.specs.Entries.{start};
-ghost use Rattle.gate_store.specs.Reopening.{MayStandFor, MayReopen, MayReopenIn};
+ghost use Rattle.gate_store.specs.Reopening.{MayReopen, MayStandFor};
 ghost use Rattle.gate_store.specs.Store.{IsStore, IsOpen, IsOpened, GivesBack, disk_in, birth_in, rules_in, state_in, unsure_in};
 ghost use Rattle.gate_store.specs.StoreSteps.{MayRecord, Reserves, Settles, Commits};
 
@@ -100,7 +100,7 @@ impl<D: Disk> Store<D> {
         ensures fates { (birth : ℕ) (entries : List Recorded) → IsStore D.tells D.story self.now birth entries
             → HaveFates (start (rules_in self.now)) (map recorded entries) }
         ensures counted { (birth : ℕ) (entries : List Recorded) → IsStore D.tells D.story self.now birth entries
-            → result.accepted ≡ result.acked + result.rejected + result.waiting }
+            → AddUp result }
     {
         self.gate.totals()
     }
@@ -168,9 +168,13 @@ impl<D: Disk> Store<D> {
         requires kept { IsOpen D.tells D.story self.old }
         ensures { Settles D.tells D.story D.faults D.calls self.old result self.new }
     {
-        self.journal.repair()?;
-        self.unsure = None;
-        Ok(())
+        match self.journal.repair() {
+            Ok(()) => {
+                self.unsure = None;
+                Ok(())
+            }
+            Err(failed) => Err(failed),
+        }
     }
 
     // Appends an entry that is reserved, and does it, once what is unsure is taken back.
@@ -182,8 +186,10 @@ impl<D: Disk> Store<D> {
         requires few { (state_in self.old).entries < most_entries }
         ensures { Commits D.tells D.story D.faults D.calls 6 self.old (prepared ready) result self.new }
     {
-        self.repair()?;
-        self.append(ready)
+        match self.repair() {
+            Ok(()) => self.append(ready),
+            Err(failed) => Err(failed),
+        }
     }
 
     // Appends an entry that is reserved, and does it. Nothing is unsure.
@@ -211,7 +217,7 @@ impl<D: Disk> Store<D> {
     pub fn pass(&mut self, entry: Passing)
         requires kept { IsOpen D.tells D.story self.old }
         requires lawful { MayPass (rules_in self.old) (state_in self.old) entry }
-        ensures { Passes D.tells D.story self.old entry self.new }
+        ensures { Passes D.tells D.story D.faults D.calls self.old entry self.new }
     {
         self.gate.pass(entry);
     }

@@ -1,6 +1,6 @@
 //! Why a store can't be opened.
 
-ghost use Rattle.store_journal.specs.declared.fault.OpenFault.{OpenFault};
+ghost use Rattle.std.specs.Prelude.{◌≡◌};
 ghost use Rattle.gate_store.specs.StoreFault.{same_fault};
 
 use store_disk::Area;

@@ -23,3 +23,12 @@ returns-in-Ok g c =
     let keeps = c.in-Ok.ensures.state in
     let done = subst (λ (kept : Recorded). Performs tells story faults calls mid kept c.commit.result new) c.in-Ok.ensures.entry c.commit.ensures in
     performed_on tells story faults calls old mid new c.args.entry c.commit.result keeps.rules refl keeps.holds refl refl (prepared_on tells story faults calls old mid refl keeps) done
+
+pub returns : goal.returns
+returns g c =
+    let tells = g.D.Disk.tells in
+    let story = g.D.Disk.story in
+    let faults = g.D.Disk.faults in
+    let calls = g.D.Disk.calls in
+    let old = c.args.self.now in
+    unremembered tells story faults calls old (record old { gate = c.prepare.new.self }) c.args.entry c.requires.kept refl c.prepare.ensures.state c.requires.taken

@@ -1,0 +1,9 @@
+use Rattle.std.proofs.Common.{subst}
+use Rattle.gate_store.proofs.Counting.{counted_by, fates_by}
+use Rattle.gate_store.proofs.store.Store.totals.Goals as goal
+
+pub returns-clause-fates : goal.returns-clause-fates
+returns-clause-fates g c = λ birth entries is. fates_by g.D.Disk.tells g.D.Disk.story c.args.self.now birth entries is
+
+pub returns-clause-counted : goal.returns-clause-counted
+returns-clause-counted g c = λ birth entries is. counted_by g.D.Disk.tells g.D.Disk.story c.args.self.now c.totals.result c.totals.ensures birth entries is

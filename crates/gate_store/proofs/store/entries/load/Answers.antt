@@ -1,0 +1,22 @@
+use Rattle.std.proofs.Common.{◌≡◌, List, ℕ, Err, refl, ap, ◌∙◌, subst}
+use Rattle.gate_model.specs.Loading.{gate_in, loaded, IsOutside, IsTaken}
+use Rattle.gate_model.specs.declared.load_fault.LoadFault.{LoadFault}
+use Rattle.store_journal.specs.Journal.{birth_of, left}
+use Rattle.gate_store.proofs.Loading.{HasLoaded-nil, HasLoaded-more, handed_first, moved_on, stops_at}
+use Rattle.gate_store.proofs.store.entries.load.Goals as goal
+
+pub loop-payload-init : goal.loop-payload-init
+loop-payload-init g c =
+    HasLoaded-nil g.D.Disk.tells g.D.Disk.story c.args.rules c.args.journal c.in-Ok.loader c.requires.journal c.requires.gate c.in-Ok.ensures.ok c.in-Ok.ensures.rules c.in-Ok.ensures.state
+
+pub loop-payload-preserved : goal.loop-payload-preserved
+loop-payload-preserved g c =
+    let payload = c.in-Ok-Some.payload in
+    let now = c.loop-payload.journal in
+    let next = c.next.new.self in
+    HasLoaded-more g.D.Disk.tells g.D.Disk.story c.args.rules c.args.journal now next c.loop-payload.loader c.put.new.self payload c.loop-payload.invariant
+    (handed_first (left now) (left next) c.in-Ok-Some.field-0 payload c.in-Ok-Some.ensures.next c.in-Ok-Some.field-0-is)
+    c.next.ensures.same c.next.ensures.disk c.next.ensures.area
+    (moved_on now next c.in-Ok-Some.field-0 payload c.in-Ok-Some.ensures.gate c.in-Ok-Some.field-0-is).1
+    (subst (λ (p : List ℕ). IsTaken p (loaded c.loop-payload.loader) (loaded c.put.new.self)) c.as_slice.ensures c.in-Ok-put.ensures.taken)
+    c.put.ensures.whole c.put.ensures.rules
