@@ -1,3 +1,6 @@
+pub mod Amid
+pub mod Answered
+pub mod Doubts
 pub mod Ending
 pub mod Gives
 pub mod OpeningLemmas

@@ -1,30 +1,32 @@
 -- What was done over a store that was opened: a session was served, or its counts were printed.
-use Rattle.std.proofs.Common.{◌≡◌, ℕ, Bool, true, false, List, [], ◌∷◌, ◌++◌, Option, Some, None, refl, ap, sym, ◌∙◌, subst}
-use Rattle.std.specs.Prelude.{IfSome, option_map}
+use Rattle.std.proofs.Common.{◌≡◌, ◌≤◌, ◌+◌, ◌*◌, ℕ, Bool, true, false, List, [], ◌∷◌, ◌++◌, length, Option, Some, None, refl, ap, sym, ◌∙◌, arith, subst}
+use Rattle.std.specs.Prelude.{IfSome, is_some, option_map}
 use Rattle.std.specs.Bool.{OnTrue}
-use Rattle.kn_base.specs.Count.{Rose}
+use Rattle.std.proofs.lemmas.List.{append-nil}
 use Rattle.kn_base.specs.Course.{Course}
 use Rattle.config_groups.specs.declared.settings.Settings.{Settings}
-use Rattle.gate_model.specs.Acceptor.{Deed}
+use Rattle.gate_model.specs.Acceptor.{Deed, CountsFaults}
 use Rattle.gate_model.specs.State.{State, totals_of}
 use Rattle.gate_model.specs.declared.totals.Totals.{Totals}
-use Rattle.sendsms_http.specs.Session.{AddsAll, Talks}
+use Rattle.sendsms_http.specs.Session.{AddsAll, Talks, with_last}
 use Rattle.sendsms_http.specs.declared.http_end.HttpEnd.{HttpEnd}
-use Rattle.store_journal.specs.Area.{stands}
+use Rattle.store_journal.specs.Area.{stands, unborn}
 use Rattle.store_disk.specs.Disk.{Areas}
+use Rattle.store_disk.specs.Story.{Story, IsImage, LeavesOnly, reads, untold}
 use Rattle.gate_entries.specs.declared.recorded.Recorded.{Recorded}
 use Rattle.gate_store.specs.Entries.{start, state_of, AreInTurn, StandsFor}
+use Rattle.gate_store.specs.Reopening.{MayReopen, MayStandFor, ReopensAlike, ReopensTo}
 use Rattle.route_rules.specs.declared.rules.Rules.{Rules}
 use Rattle.gate_store.specs.Deeds.{Leads, done_of}
-use Rattle.gate_store.specs.Store.{IsStore, IsOpened, disk_in, rules_in, state_in, is_store_broken}
+use Rattle.gate_store.specs.Store.{IsStore, IsOpened, disk_in, birth_in, rules_in, state_in, unsure_in}
 use Rattle.gate_store.specs.declared.store.Store.{Store}
-use Rattle.gate_store.proofs.Commits.{reasoned, spared, unfailed, gained, broke}
-use Rattle.gate_store.proofs.Opening.{told_weaker}
-use Rattle.boxes_main.specs.Door.{Commits, IsSession, octets_limit, fault_by}
+use Rattle.gate_store.proofs.Commits.{reasoned, ruled_on, gained, doubted}
+use Rattle.gate_store.proofs.Told.{told_weaker, told_both, told_leaves_weaker}
+use Rattle.boxes_main.specs.Door.{IsInDoubt, IsSession, ReopensAmid, accepts_in, octets_limit, fault_by}
 use Rattle.boxes_main.specs.DoorSteps.{ServesOne}
 use Rattle.boxes_main.specs.Failure.{status_of}
 use Rattle.boxes_main.specs.House.{Rooms, Stock, IsToldWord}
-use Rattle.boxes_main.specs.Opening.{IsFound}
+use Rattle.boxes_main.specs.Opening.{IsFound, IsHouseDisk}
 use Rattle.boxes_main.specs.Show.{show_text, Prints}
 use Rattle.boxes_main.specs.ShowSteps.{ShowsOne}
 use Rattle.boxes_main.specs.Worker.{Worker}
@@ -33,6 +35,9 @@ use Rattle.boxes_main.specs.declared.command_end.SessionEnd.TheVariants as ended
 use Rattle.boxes_main.specs.declared.failure.Failure.{Failure}
 use Rattle.boxes_main.specs.declared.failure.Failure.TheVariants.{Session, Output}
 use Rattle.boxes_main.specs.declared.printing.OutputFault.{OutputFault}
+use Rattle.boxes_main.proofs.Amid.{amid, amid_first, calls_after, opening_stops, state_after}
+use Rattle.boxes_main.proofs.Answered.{talk_done}
+use Rattle.boxes_main.proofs.Doubts.{in_doubt}
 
 -- a clock that wasn't read before was read so and no more
 new_readings : (readings : List ℕ) (old new : Option (List ℕ)) → IfSome old (λ so_far. so_far ≡ []) → AddsAll readings old new → IfSome new (λ all. all ≡ readings)
@@ -40,64 +45,107 @@ new_readings readings old None none adds = tt
 new_readings readings (Some old) (Some all) none adds = let was : old ≡ adds.0 = cc in let more : all ≡ adds.0 ++ readings = adds.2 in cc
 new_readings readings None (Some all) none adds = absurd cc
 
-module _ {D : Type 0} (tells : Bool) (contents : D → Areas) (faults : D → ℕ) where
+-- a fact that follows from three, where something is told
+told_three : (tells : Bool) (P Q R S : Type 0) → (P → Q → R → S) → OnTrue tells P → OnTrue tells Q → OnTrue tells R → OnTrue tells S
+told_three true P Q R S f p q r = f p q r
+told_three false P Q R S f p q r = tt
+
+-- what was counted since a count that was 0
+counted_by : (before now later : ℕ) (deeds : List Deed) → before ≡ 0 → later ≡ now → CountsFaults before now deeds → CountsFaults 0 later deeds
+counted_by before now later deeds none same counts =
+    subst (λ n. CountsFaults 0 n deeds) (sym same) (subst (λ n. CountsFaults n now deeds) none counts)
+
+module _
+    {D : Type 0} (tells : Bool) (story : D → Story) (faults calls : D → ℕ)
+    (areas : Areas) (disk : D) (rules : Rules) (birth : ℕ) (store : Store D)
+    (new_disk : IsHouseDisk tells story faults calls areas disk) (is : IsOpened tells story faults calls disk rules birth store) where
+  -- each entry came in its turn, by the rules
+  turns : AreInTurn (start rules) is.entries
+  turns = subst (λ (r : Rules). AreInTurn (start r) is.entries) is.ruled is.holds.in_turn
+
   -- a store that was opened is what the areas stood for
-  pub found_by : (areas : Areas) (word : Option ℕ) (rules : Rules) (birth : ℕ) (store : Store D) → IsToldWord word birth
-      → (is : IsOpened tells contents faults areas 0 rules birth store) → IsFound tells contents faults areas word rules is.there is.entries
-  found_by areas word rules birth store told is = record {
-    in_turn = subst (λ (r : Rules). AreInTurn (start r) is.entries) is.ruled is.holds.in_turn;
-    stood = is.stood;
-    born = told_weaker tells _ _ (λ f unborn. subst (λ n. IsToldWord word n) (sym (f unborn)) told) is.born;
+  pub found_by : (word : Option ℕ) → IsToldWord word birth → IsFound tells areas word rules (birth_in store) is.entries
+  found_by word told = record {
+    in_turn = turns;
+    stood = told_both tells _ _ _ (λ same stood. subst (λ (s : Story). StandsFor (stands (reads s)) (birth_in store) is.entries) same stood) new_disk.told is.stood;
+    born = told_both tells _ _ _
+        (λ same born unborn_then. subst (λ n. IsToldWord word n) (sym (born (subst (λ (s : Story). stands (reads s) ≡ unborn) (sym same) unborn_then))) told) new_disk.told is.born;
   }
 
-  -- its state is what its entries make
-  pub opened_state : (store : Store D) (rules : Rules) (birth : ℕ) (areas : Areas) (is : IsOpened tells contents faults areas 0 rules birth store)
-      → state_in store ≡ state_of rules is.entries
-  opened_state store rules birth areas is = is.holds.state ∙ ap (λ (r : Rules). state_of r is.entries) is.ruled
+  -- whenever the opening stopped, the areas reopen to the state that it found
+  pub opened_stops : OnTrue tells (LeavesOnly (untold areas) (story (disk_in store)) (ReopensTo rules (state_of rules is.entries)))
+  opened_stops = told_three tells _ _ _ _
+      (λ same stood alike. opening_stops (story disk) (story (disk_in store)) areas rules (birth_in store) is.entries same stood turns alike) new_disk.told is.stood is.stops
 
-  -- what deeds on a store that was opened leave on its disk, by whether it broke
-  commits_by : (store later : Store D) (deeds : List Deed) (areas : Areas) (rules : Rules) (birth : ℕ) (disk : D) (is : IsOpened tells contents faults areas 0 rules birth store)
-      → Leads tells contents faults store deeds later → disk ≡ disk_in later
-      → ((b : ℕ) (all : List Recorded) → IsStore tells contents later b all → OnTrue tells (StandsFor (stands (contents disk)) b all))
-      → (broken : Bool) → is_store_broken later ≡ broken → Commits tells contents faults broken is.there is.entries deeds disk
-  commits_by store later deeds areas rules birth disk is led same stand true broken =
-      let went = broke tells contents faults store later deeds led is.holds.journal.whole broken in
-      (went.0, subst (λ n. Rose n (faults disk)) is.unfailed (subst (λ d. Rose (faults (disk_in store)) (faults d)) (sym same) went.1))
-  commits_by store later deeds areas rules birth disk is led same stand false whole = (
-    spared tells contents faults store later deeds led whole,
-    ap faults same ∙ (unfailed tells contents faults store later deeds led whole ∙ is.unfailed),
-    stand is.there (is.entries ++ done_of deeds) (gained tells contents faults store later deeds led whole is.there is.entries is.holds),
-  )
+  -- no disk call failed, and few were made
+  pub opened_unfailed : faults (disk_in store) ≡ 0
+  opened_unfailed = is.unfailed ∙ new_disk.no_faults
+
+  pub opened_calls : calls (disk_in store) ≤ 20
+  opened_calls = subst (λ n. calls (disk_in store) ≤ n + 20) new_disk.no_calls is.bounded
+
+module _ {D : Type 0} (tells : Bool) (story : D → Story) (faults calls : D → ℕ) where
+  -- whatever a stop leaves of a disk that is handed back, by the store that was closed, stands for it
+  abbrev pub ClosesAs : Store D → D → Type 0
+  ClosesAs store disk = (birth : ℕ) (entries : List Recorded) → IsStore tells story store birth entries
+      → OnTrue tells ((image : Areas) → IsImage (story disk) image → MayStandFor birth entries (unsure_in store) image)
+
+  -- and reopens to its state
+  abbrev pub ClosesTo : Store D → D → Type 0
+  ClosesTo store disk = (birth : ℕ) (entries : List Recorded) → IsStore tells story store birth entries
+      → OnTrue tells ((image : Areas) → IsImage (story disk) image → MayReopen (rules_in store) (state_in store) (unsure_in store) image)
 
   -- the session over a store that was opened
   pub session_by : (settings : Settings) (store later : Store D) (old new : Course) (readings : List ℕ) (deeds : List Deed) (end : HttpEnd) (disk : D)
-      → Talks settings octets_limit old new readings deeds end → Leads tells contents faults store deeds later → disk ≡ disk_in later
-      → ((b : ℕ) (all : List Recorded) → IsStore tells contents later b all → OnTrue tells (StandsFor (stands (contents disk)) b all))
-      → (areas : Areas) (word : Option ℕ) (birth : ℕ) → IsToldWord word birth → IsOpened tells contents faults areas 0 settings.rules birth store
-      → IsSession tells contents faults settings areas word old new readings end disk (fault_by (is_store_broken later) end)
-  session_by settings store later old new readings deeds end disk talks led same stand areas word birth told is = record {
-    birth = is.there;
-    entries = is.entries;
-    found = found_by areas word settings.rules birth store told is;
-    deeds = deeds;
-    talks = talks;
-    reasoned = reasoned tells contents faults settings.rules (state_of settings.rules is.entries) store later deeds led is.ruled (opened_state store settings.rules birth areas is);
-    broken = is_store_broken later;
-    commits = commits_by store later deeds areas settings.rules birth disk is led same stand (is_store_broken later) refl;
-    failed = refl;
-  }
+      → Talks settings octets_limit old new readings deeds end → Leads tells story faults calls store deeds later
+      → CountsFaults (faults (disk_in store)) (faults (disk_in later)) deeds → disk ≡ disk_in later → ClosesAs later disk → ClosesTo later disk
+      → (areas : Areas) (word : Option ℕ) (birth : ℕ) (found : D) → IsToldWord word birth → IsHouseDisk tells story faults calls areas found
+      → IsOpened tells story faults calls found settings.rules birth store
+      → IsSession tells story faults calls settings areas word old new readings end disk (fault_by (is_some (unsure_in later)) end)
+  session_by settings store later old new readings deeds end disk talks led counts same closes_as closes_to areas word birth found told new_disk is =
+      let rules = settings.rules in
+      let all = is.entries ++ done_of deeds in
+      let ruled : rules_in later ≡ rules = ruled_on tells story faults calls store later deeds led ∙ is.ruled in
+      let state : state_in later ≡ state_of rules all = state_after tells story faults calls rules is.entries deeds store later is.state led in
+      let holds : IsStore tells story later (birth_in store) all = gained tells story faults calls store later deeds led (birth_in store) is.entries is.holds in
+      let sure : IfSome (unsure_in store) (IsInDoubt []) = subst (λ (u : Option Recorded). IfSome u (IsInDoubt [])) (sym is.sure) tt in
+      let calls_more = calls_after tells story faults calls rules is.entries deeds store later led in
+      let calls_first = opened_calls tells story faults calls areas found rules birth store new_disk is in
+      record {
+        birth = birth_in store;
+        entries = is.entries;
+        found = found_by tells story faults calls areas found rules birth store new_disk is word told;
+        deeds = deeds;
+        talks = talks;
+        reasoned = reasoned tells story faults calls rules (state_of rules is.entries) store later deeds led is.ruled is.state;
+        stored = ap done_of talks.talk.handed_in ∙ talk_done settings talks.ended talks.talk.kept talks.talk.last talks.talk.kept_each talks.talk.last_one;
+        unsure = unsure_in later;
+        doubt = in_doubt [] deeds (unsure_in store) (unsure_in later) sure (doubted tells story faults calls store later deeds led);
+        stands = closes_as (birth_in store) all holds;
+        stops = subst (λ (s : State). OnTrue tells ((image : Areas) → IsImage (story disk) image → MayReopen rules s (unsure_in later) image)) state
+            (subst (λ (r : Rules). OnTrue tells ((image : Areas) → IsImage (story disk) image → MayReopen r (state_in later) (unsure_in later) image)) ruled
+            (closes_to (birth_in store) all holds));
+        amid = subst (λ (d : D). OnTrue tells (LeavesOnly (untold areas) (story d) (ReopensAmid rules is.entries deeds))) (sym same)
+            (amid tells story faults calls rules is.entries deeds (untold areas) [] deeds store later refl is.ruled
+            (is.state ∙ ap (state_of rules) (sym (append-nil is.entries))) sure
+            (told_leaves_weaker tells (untold areas) (story (disk_in store)) (ReopensTo rules (state_of rules is.entries)) (ReopensAmid rules is.entries deeds)
+            (amid_first rules is.entries deeds) (opened_stops tells story faults calls areas found rules birth store new_disk is)) led);
+        counted = counted_by (faults (disk_in store)) (faults (disk_in later)) (faults disk) deeds
+            (opened_unfailed tells story faults calls areas found rules birth store new_disk is) (ap faults same) counts;
+        bounded = let here : calls disk ≡ calls (disk_in later) = ap calls same in omega (arith, here, calls_more, calls_first);
+        failed = refl;
+      }
 
 module _
-    {V S O E D C : Type 0} (course : O → Course) (tells : Bool) (contents : D → Areas) (faults : D → ℕ) (rules : Rules)
+    {V S O E D C : Type 0} (course : O → Course) (tells : Bool) (story : D → Story) (faults calls : D → ℕ) (rules : Rules)
     (old new : Rooms V S O E) (before after : Stock) (output : O) (store : Store D) (totals : Totals) (disk : D) (workers : List (Worker C)) where
   -- what a store counts was printed on the house's output
   pub shows_by : new ≡ record old { output = output } → after ≡ before
       → (status : ℕ) (failure : Option Failure) (fault : Option OutputFault) → status ≡ status_of failure → failure ≡ option_map Output fault → workers ≡ []
       → Prints (show_text totals) fault (course old.output) (course output)
-      → (totals ≡ totals_of (state_in store)) → disk ≡ disk_in store
-      → ((b : ℕ) (all : List Recorded) → IsStore tells contents store b all → OnTrue tells (StandsFor (stands (contents disk)) b all))
-      → ShowsOne course tells contents faults rules old new before after store status failure (Some disk) workers
-  shows_by lent stays status failure fault right failed alone prints counted same stand =
+      → (totals ≡ totals_of (state_in store)) → disk ≡ disk_in store → ClosesAs tells story faults calls store disk
+      → ShowsOne course tells story faults calls rules old new before after store status failure (Some disk) workers
+  shows_by lent stays status failure fault right failed alone prints counted same closes =
       let gave : output ≡ new.output = sym (ap (λ r. r.output) lent) in
       record {
         others = lent ∙ ap (λ o. record old { output = o }) gave;
@@ -106,42 +154,47 @@ module _
         no_worker = alone;
         fault = fault;
         failed = failed;
-        shown = λ areas word birth told is. record {
-          birth = is.there;
+        shown = λ areas word birth found told new_disk is. record {
+          birth = birth_in store;
           entries = is.entries;
-          found = found_by tells contents faults areas word rules birth store told is;
-          prints = subst (λ (t : Totals). Prints (show_text t) fault (course old.output) (course new.output)) (counted ∙ ap totals_of (opened_state tells contents faults store rules birth areas is))
+          found = found_by tells story faults calls areas found rules birth store new_disk is word told;
+          prints = subst (λ (t : Totals). Prints (show_text t) fault (course old.output) (course new.output)) (counted ∙ ap totals_of is.state)
               (subst (λ (o : O). Prints (show_text totals) fault (course old.output) (course o)) gave prints);
           after = disk;
           handed_back = refl;
-          stood = stand is.there is.entries is.holds;
-          unfailed = ap faults same ∙ is.unfailed;
+          stands = subst (λ (u : Option Recorded). OnTrue tells ((image : Areas) → IsImage (story disk) image → MayStandFor (birth_in store) is.entries u image)) is.sure
+              (closes (birth_in store) is.entries is.holds);
+          stops = subst (λ (d : D). OnTrue tells (LeavesOnly (untold areas) (story d) (ReopensTo rules (state_of rules is.entries)))) (sym same)
+              (opened_stops tells story faults calls areas found rules birth store new_disk is);
+          unfailed = ap faults same ∙ opened_unfailed tells story faults calls areas found rules birth store new_disk is;
+          bounded = subst (λ (d : D). calls d ≤ 20) (sym same) (opened_calls tells story faults calls areas found rules birth store new_disk is);
         };
       }
 
 module _
     {V S O E D C : Type 0} (course : V → Course)
-    (tells : Bool) (contents : D → Areas) (faults : D → ℕ) (readings_of : C → Option (List ℕ)) (settings : Settings)
+    (tells : Bool) (story : D → Story) (faults calls : D → ℕ) (readings_of : C → Option (List ℕ)) (settings : Settings)
     (old mid new : Rooms V S O E) (before between after : Stock) (peer : V) (store later : Store D) (clock clock_later : C)
     (readings : List ℕ) (deeds : List Deed) (end : HttpEnd) (disk : D) (workers : List (Worker C)) where
   -- a session that was served on the house's visitor, with a clock of it
   pub serves_by : mid ≡ old → new ≡ record mid { visitor = peer } → between ≡ before → after ≡ between
-      → (status : ℕ) (failure : Option Failure) → status ≡ status_of failure → failure ≡ option_map Session (fault_by (is_store_broken later) end)
+      → (status : ℕ) (failure : Option Failure) → status ≡ status_of failure → failure ≡ option_map Session (fault_by (is_some (unsure_in later)) end)
       → workers ≡ record { role = role_is.Http; clock = Some clock_later; ends = ended_as.Http end ∷ [] } ∷ []
       → IfSome (readings_of clock) (λ so_far. so_far ≡ []) → AddsAll readings (readings_of clock) (readings_of clock_later)
-      → Talks settings octets_limit (course mid.visitor) (course peer) readings deeds end → Leads tells contents faults store deeds later → disk ≡ disk_in later
-      → ((b : ℕ) (all : List Recorded) → IsStore tells contents later b all → OnTrue tells (StandsFor (stands (contents disk)) b all))
-      → ServesOne course tells contents faults readings_of settings old new before after store status failure (Some disk) workers
-  serves_by first lent same stays status failure right failed left new_clock read talks led same_disk stand =
+      → Talks settings octets_limit (course mid.visitor) (course peer) readings deeds end → Leads tells story faults calls store deeds later
+      → CountsFaults (faults (disk_in store)) (faults (disk_in later)) deeds → disk ≡ disk_in later
+      → ClosesAs tells story faults calls later disk → ClosesTo tells story faults calls later disk
+      → ServesOne course tells story faults calls readings_of settings old new before after store status failure (Some disk) workers
+  serves_by first lent same stays status failure right failed left new_clock read talks led counts same_disk closes_as closes_to =
       let rooms : new ≡ record old { visitor = peer } = subst (λ (r : Rooms V S O E). new ≡ record r { visitor = peer }) first lent in
       let others : new ≡ record old { visitor = new.visitor } = subst (λ (v : V). new ≡ record old { visitor = v }) (sym (ap (λ r. r.visitor) rooms)) rooms in
       record {
         others = others;
         stock = stays ∙ same;
         right = right;
-        fault = fault_by (is_store_broken later) end;
+        fault = fault_by (is_some (unsure_in later)) end;
         failed = failed;
-        served = λ areas word birth told is. record {
+        served = λ areas word birth found told new_disk is. record {
           readings = readings;
           end = end;
           worker = record { role = role_is.Http; clock = Some clock_later; ends = ended_as.Http end ∷ [] };
@@ -149,9 +202,9 @@ module _
           left = record { role = refl; clock = new_readings readings (readings_of clock) (readings_of clock_later) new_clock read; ends = refl };
           after = disk;
           handed_back = refl;
-          session = session_by tells contents faults settings store later (course old.visitor) (course new.visitor) readings deeds end disk
+          session = session_by tells story faults calls settings store later (course old.visitor) (course new.visitor) readings deeds end disk
               (subst (λ (v : V). Talks settings octets_limit (course old.visitor) (course v) readings deeds end) (sym (ap (λ r. r.visitor) rooms))
               (subst (λ (r : Rooms V S O E). Talks settings octets_limit (course r.visitor) (course peer) readings deeds end) first talks))
-              led same_disk stand areas word birth told is;
+              led counts same_disk closes_as closes_to areas word birth found told new_disk is;
         };
       }

@@ -4,11 +4,13 @@ use Rattle.std.specs.declared.alloc.Global.{Global}
 use Rattle.kn_base.specs.Course.{Course}
 use Rattle.config_groups.specs.declared.settings.Settings.{Settings}
 use Rattle.store_disk.specs.Disk.{Areas}
+use Rattle.store_disk.specs.Story.{Story}
 use Rattle.gate_store.specs.Store.{IsOpened}
 use Rattle.gate_store.specs.declared.store.Store.{Store}
 use Rattle.boxes_main.specs.Door.{IsServed, ComesTo}
 use Rattle.boxes_main.specs.Failure.{status_of}
 use Rattle.boxes_main.specs.House.{Rooms, Stock, MakesFor, IsToldWord}
+use Rattle.boxes_main.specs.Opening.{IsHouseDisk}
 use Rattle.boxes_main.specs.Worker.{Worker}
 use Rattle.boxes_main.specs.declared.failure.Failure.{Failure}
 use Rattle.boxes_main.specs.declared.failure.Failure.TheVariants.{Session}
@@ -23,7 +25,7 @@ pub record HasRoom {A B : Type 0} (ends : Vec A Global) (workers : Vec B Global)
 
 module _
     {V S O E D C : Type 0} (course : V → Course)
-    (tells : Bool) (contents : D → Areas) (faults : D → ℕ) (readings_of : C → Option (List ℕ)) where
+    (tells : Bool) (story : D → Story) (faults calls : D → ℕ) (readings_of : C → Option (List ℕ)) where
   -- A session was served over a store.
   pub record ServesOne
       (settings : Settings) (old new : Rooms V S O E) (before after : Stock) (store : Store D)
@@ -33,13 +35,13 @@ module _
     pub right : status ≡ status_of failure
     pub fault : Option SessionFault
     pub failed : failure ≡ option_map Session fault
-    pub served : (areas : Areas) (word : Option ℕ) (birth : ℕ) → IsToldWord word birth
-        → IsOpened tells contents faults areas 0 settings.rules birth store
-        → IsServed tells contents faults readings_of settings areas word (course old.visitor) (course new.visitor) workers disk fault
+    pub served : (areas : Areas) (word : Option ℕ) (birth : ℕ) (found : D) → IsToldWord word birth → IsHouseDisk tells story faults calls areas found
+        → IsOpened tells story faults calls found settings.rules birth store
+        → IsServed tells story faults calls readings_of settings areas word (course old.visitor) (course new.visitor) workers disk fault
 
 module _
     {V S O E D C : Type 0} (course : V → Course) (files : S → Option (List (List ℕ × List ℕ))) (shelf_faults : S → ℕ)
-    (tells : Bool) (contents : D → Areas) (faults : D → ℕ) (readings_of : C → Option (List ℕ)) where
+    (tells : Bool) (story : D → Story) (faults calls : D → ℕ) (readings_of : C → Option (List ℕ)) where
   -- The command came to its end, but for what it says of a failure.
   pub record Ends
       (name : Option (List ℕ)) (old new : Rooms V S O E) (before after : Stock)
@@ -47,4 +49,4 @@ module _
     pub others : new ≡ record old { visitor = new.visitor; shelf = new.shelf }
     pub right : status ≡ status_of failure
     pub made : MakesFor disk before after
-    pub comes_to : ComesTo course files shelf_faults tells contents faults readings_of name old new before workers disk failure
+    pub comes_to : ComesTo course files shelf_faults tells story faults calls readings_of name old new before workers disk failure

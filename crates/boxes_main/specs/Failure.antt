@@ -3,6 +3,8 @@ use Rattle.std.specs.Prelude.{◌≡◌, ℕ, List, ◌∷◌, [], ◌++◌, cod
 use Rattle.kn_base.specs.Course.{Course}
 use Rattle.config_groups.specs.declared.read.ConfigFault.TheVariants as config_is
 use Rattle.gate_store.specs.declared.store_fault.StoreFault.TheVariants as store_is
+use Rattle.store_disk.specs.declared.area.Area.{Area}
+use Rattle.store_disk.specs.declared.area.Area.TheVariants.{A, B, Pick}
 use Rattle.boxes_main.specs.Giving.{GivesText}
 use Rattle.boxes_main.specs.declared.session.SessionFault.TheVariants as session_is
 use Rattle.boxes_main.specs.declared.printing.OutputFault.TheVariants as output_is
@@ -22,6 +24,16 @@ place file number = codes "boxes: configuration: file " ++ decimal file ++ codes
 abbrev pub lack : (group : ℕ) (variable : List ℕ) → List ℕ
 lack group variable = codes "boxes: configuration: group " ++ decimal group ++ codes " lacks " ++ variable
 
+-- the word for an area of a store
+abbrev pub area_word : Area → List ℕ
+area_word A = codes "a"
+area_word B = codes "b"
+area_word Pick = codes "pick"
+
+-- the first place of a store that doesn't fit, in octets
+abbrev pub misfit : Area → (at : ℕ) → List ℕ
+misfit area at = codes "boxes: store: area " ++ area_word area ++ codes " at " ++ decimal at
+
 -- the status of the program, and the line on standard error, by what went wrong
 abbrev pub row_of : Failure → ℕ × List ℕ
 row_of Usage = (2, line (codes "boxes: usage: boxes door CONF | show CONF"))
@@ -32,7 +44,7 @@ row_of (Configuration config_is.TooDeep) = (3, line (codes "boxes: configuration
 row_of (Configuration config_is.NoFile) = (3, line (codes "boxes: configuration: cannot read"))
 row_of (Configuration config_is.Memory) = (9, line (codes "boxes: out of memory"))
 row_of NoStoreFile = (3, line (codes "boxes: configuration: no store-file"))
-row_of (Store store_is.Foreign) = (4, line (codes "boxes: store: foreign"))
+row_of (Store (store_is.Foreign area at)) = (4, line (misfit area at))
 row_of (Store store_is.Disk) = (5, line (codes "boxes: store: disk fault"))
 row_of (Store store_is.Memory) = (9, line (codes "boxes: out of memory"))
 row_of (Session session_is.Disk) = (5, line (codes "boxes: store: disk fault"))

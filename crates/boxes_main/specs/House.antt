@@ -3,6 +3,7 @@ use Rattle.std.specs.Prelude.{◌≡◌, ℕ, Bool, List, [], Option, Some, None
 use Rattle.std.specs.Bool.{OnTrue}
 use Rattle.kn_base.specs.Count.{next_count}
 use Rattle.store_disk.specs.Disk.{Areas}
+use Rattle.store_disk.specs.Story.{Story, untold}
 
 -- what a house lends: the visitor on standard input and output, the files, standard output, and standard error
 pub record Rooms (V S O E : Type 0) : Type 0 where
@@ -11,7 +12,7 @@ pub record Rooms (V S O E : Type 0) : Type 0 where
   pub output : O
   pub errors : E
 
--- What a house hands out: what its disk under a name reads as, the birth of a store that isn't born, where that is told, and
+-- What a house hands out: the areas of its disk under a name, the birth of a store that isn't born, where that is told, and
 -- how many disks it has made.
 pub record Stock : Type 0 where
   pub disks : List ℕ → Areas
@@ -27,9 +28,9 @@ abbrev pub MakesFor : {D : Type 0} → Option D → Stock → Stock → Type 0
 MakesFor None old new = new ≡ old
 MakesFor (Some disk) old new = MakesOne old new
 
--- A disk that has made no call and, where it tells its contents, reads as stated.
-pub record IsNewDisk (tells : Bool) (contents : Areas) (calls faults : ℕ) (stated : Areas) : Type 0 where
-  pub reads : OnTrue tells (contents ≡ stated)
+-- A disk that has made no call: where it tells its story, nothing was done to the stated areas.
+pub record IsNewDisk (tells : Bool) (story : Story) (calls faults : ℕ) (stated : Areas) : Type 0 where
+  pub told : OnTrue tells (story ≡ untold stated)
   pub no_calls : calls ≡ 0
   pub no_faults : faults ≡ 0
 

@@ -8,13 +8,14 @@ use Rattle.config_groups.specs.declared.read.ConfigFault.TheVariants.{NoFile}
 use Rattle.config_groups.specs.declared.settings.Settings.{Settings}
 use Rattle.store_journal.specs.Area.{stands, unborn}
 use Rattle.store_disk.specs.Disk.{Areas}
+use Rattle.store_disk.specs.Story.{Story}
 use Rattle.gate_entries.specs.declared.recorded.Recorded.{Recorded}
 use Rattle.gate_store.specs.Entries.{start, AreInTurn, StandsFor}
 use Rattle.route_rules.specs.declared.rules.Rules.{Rules}
-use Rattle.gate_store.specs.Store.{IsUnopened}
+use Rattle.gate_store.specs.Store.{GivesBack}
 use Rattle.gate_store.specs.declared.store_fault.StoreFault.{StoreFault}
 use Rattle.gate_store.specs.declared.store_fault.StoreFault.TheVariants as store_is
-use Rattle.boxes_main.specs.House.{Stock, IsToldWord}
+use Rattle.boxes_main.specs.House.{Stock, IsNewDisk, IsToldWord}
 use Rattle.boxes_main.specs.declared.failure.Failure.{Failure}
 use Rattle.boxes_main.specs.declared.failure.Failure.TheVariants.{Usage, Configuration, NoStoreFile, Store, Session, Output}
 
@@ -36,22 +37,31 @@ module _ {S : Type 0} (files : S → Option (List (List ℕ × List ℕ))) (faul
     pub reads : IsSomeAnd name (λ name. Reads name old new (Ok settings))
     pub no_store_file : settings.core.store_file ≡ []
 
-module _ {D : Type 0} (tells : Bool) (contents : D → Areas) (faults : D → ℕ) where
-  -- No store was opened on the house's disk, or there was no memory for a disk.
-  abbrev pub IsNoStore : Areas → (word : Option ℕ) → Rules → Option D → StoreFault → Type 0
-  IsNoStore areas word rules disk fault =
-      MatchOption disk (fault ≡ store_is.Memory) (λ disk. (birth : ℕ) × IsToldWord word birth × IsUnopened tells contents faults areas 0 rules birth disk fault)
+module _ {D : Type 0} (tells : Bool) (story : D → Story) (faults calls : D → ℕ) where
+  -- a disk of the house, to which nothing was done yet, and whose areas are the stated ones where they are told
+  abbrev pub IsHouseDisk : Areas → D → Type 0
+  IsHouseDisk areas disk = IsNewDisk tells (story disk) (calls disk) (faults disk) areas
 
-  -- A store that was opened, of this birth with these entries, each in its turn, is what the areas stood for; one that wasn't born was born with the
-  -- house's word.
-  pub record IsFound (areas : Areas) (word : Option ℕ) (rules : Rules) (birth : ℕ) (entries : List Recorded) : Type 0 where
-    pub in_turn : AreInTurn (start rules) entries
-    pub stood : OnTrue tells (StandsFor (stands areas) birth entries)
-    pub born : OnTrue tells (stands areas ≡ unborn → IsToldWord word birth)
+  -- No store was opened on a disk of the house, which is handed back: why, and that nothing that it held is lost, whenever it stopped.
+  pub record GivesDiskBack (areas : Areas) (rules : Rules) (back : D) (fault : StoreFault) : Type 0 where
+    pub disk : D
+    pub new_disk : IsHouseDisk areas disk
+    pub gives_back : GivesBack tells story faults calls disk rules back fault
+
+  -- no store was opened on the house's disk, or there was no memory for a disk
+  abbrev pub IsNoStore : Areas → Rules → Option D → StoreFault → Type 0
+  IsNoStore areas rules disk fault = MatchOption disk (fault ≡ store_is.Memory) (λ back. GivesDiskBack areas rules back fault)
+
+-- A store that was opened, of this birth with these entries, each in its turn, is what the areas stood for; one that wasn't born was born with the
+-- house's word.
+pub record IsFound (tells : Bool) (areas : Areas) (word : Option ℕ) (rules : Rules) (birth : ℕ) (entries : List Recorded) : Type 0 where
+  pub in_turn : AreInTurn (start rules) entries
+  pub stood : OnTrue tells (StandsFor (stands areas) birth entries)
+  pub born : OnTrue tells (stands areas ≡ unborn → IsToldWord word birth)
 
 module _
     {S D : Type 0} (files : S → Option (List (List ℕ × List ℕ))) (shelf_faults : S → ℕ)
-    (tells : Bool) (contents : D → Areas) (faults : D → ℕ) where
+    (tells : Bool) (story : D → Story) (faults calls : D → ℕ) where
   -- Why no store stands open, by what went wrong: the words are none of the command's; the configuration was refused, or names no
   -- store; or its store wasn't opened on the house's disk under that name.
   abbrev pub IsNotOpen : (name : Option (List ℕ)) → S → S → Stock → Option D → Failure → Type 0
@@ -60,6 +70,6 @@ module _
   IsNotOpen name old new stock disk NoStoreFile = (settings : Settings) × LacksStoreFile files shelf_faults name old new settings × (disk ≡ None)
   IsNotOpen name old new stock disk (Store fault) =
       (settings : Settings) × IsConfigured files shelf_faults name old new settings
-      × IsNoStore tells contents faults (stock.disks settings.core.store_file) stock.word settings.rules disk fault
+      × IsNoStore tells story faults calls (stock.disks settings.core.store_file) settings.rules disk fault
   IsNotOpen name old new stock disk (Session fault) = ⊥
   IsNotOpen name old new stock disk (Output fault) = ⊥

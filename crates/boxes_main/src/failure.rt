@@ -1,7 +1,7 @@
 //! Why a command ends with another status than 0, and what it says of that.
 
 ghost use Rattle.std.specs.Prelude.{◌≡◌, ◌++◌, ◌∷◌, []};
-ghost use Rattle.boxes_main.specs.Failure.{row_of, status_of, Tells};
+ghost use Rattle.boxes_main.specs.Failure.{area_word, row_of, status_of, Tells};
 ghost use Rattle.boxes_main.specs.Giving.{GivesText};
 ghost use Rattle.boxes_main.specs.Lines.{text_in};
 
@@ -12,6 +12,7 @@ use config_groups::ConfigFault;
 use gate_store::StoreFault;
 use itoa::Buffer;
 use kn_base::{Octets, Sink};
+use store_disk::Area;
 
 /// What went wrong first, by the layer that it went wrong in.
 #[derive(Drop)]
@@ -39,6 +40,8 @@ enum Line<'a> {
     Place { file: u32, line: u64 },
     /// A variable that a group lacks.
     Lack { group: u64, variable: &'a Octets },
+    /// The first place of a store that doesn't fit.
+    Misfit { area: Area, at: u64 },
 }
 
 /// The line for want of memory.
@@ -82,6 +85,23 @@ fn configuration_row(fault: &ConfigFault) -> (u8, Line)
     }
 }
 
+/// The same where the store wasn't opened.
+fn store_row(fault: &StoreFault) -> (u8, Line)
+    ensures { (result.0, text_in result.1) ≡ row_of (Failure.Store fault.now) }
+{
+    match fault {
+        StoreFault::Foreign { area, at } => (
+            4,
+            Line::Misfit {
+                area: *area,
+                at: *at,
+            },
+        ),
+        StoreFault::Disk => (5, Line::Text(DISK_FAULT)),
+        StoreFault::Memory => (9, Line::Text(OUT_OF_MEMORY)),
+    }
+}
+
 /// The status that the program ends with, and the line for standard error.
 fn row(failure: &Failure) -> (u8, Line)
     ensures { (result.0, text_in result.1) ≡ row_of failure.now }
@@ -90,9 +110,7 @@ fn row(failure: &Failure) -> (u8, Line)
         Failure::Usage => (2, Line::Text(USAGE)),
         Failure::Configuration(fault) => configuration_row(fault),
         Failure::NoStoreFile => (3, Line::Text(b"boxes: configuration: no store-file\n")),
-        Failure::Store(StoreFault::Foreign) => (4, Line::Text(b"boxes: store: foreign\n")),
-        Failure::Store(StoreFault::Disk) => (5, Line::Text(DISK_FAULT)),
-        Failure::Store(StoreFault::Memory) => (9, Line::Text(OUT_OF_MEMORY)),
+        Failure::Store(fault) => store_row(fault),
         Failure::Session(SessionFault::Disk) => (5, Line::Text(DISK_FAULT)),
         Failure::Session(SessionFault::Connection) => (6, Line::Text(CONNECTION_FAULT)),
         Failure::Session(SessionFault::Budget) => (7, Line::Text(b"boxes: budget spent\n")),
@@ -115,6 +133,17 @@ fn give_parts<S: Sink>(
     give_two(errors, front, first)?;
     give_two(errors, between, last)?;
     give(errors, b"\n")
+}
+
+/// The word for an area of a store.
+fn word_of(area: Area) -> &'static [u8]
+    ensures { result.now ≡ area_word area }
+{
+    match area {
+        Area::A => b"a",
+        Area::B => b"b",
+        Area::Pick => b"pick",
+    }
 }
 
 /// Gives a line.
@@ -141,6 +170,16 @@ fn give_line<S: Sink>(errors: &mut S, line: Line) -> Result<(), Cut>
                 groups.format(group).as_bytes(),
                 b" lacks ",
                 variable.as_slice(),
+            )
+        }
+        Line::Misfit { area, at } => {
+            let mut places = Buffer::new();
+            give_parts(
+                errors,
+                b"boxes: store: area ",
+                word_of(area),
+                b" at ",
+                places.format(at).as_bytes(),
             )
         }
     }

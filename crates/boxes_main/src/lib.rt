@@ -5,8 +5,8 @@
 //! HTTP on standard input and output over it, and `show` prints what it counts. Each returns `Ended`: the status, what went wrong,
 //! the disk and what the workers left.
 //!
-//! The one contract: what `door` says answers what it heard, and the disk that it hands back stands for what it found
-//! there and, exactly where it said 202, for the new messages behind it.
+//! The one contract: what `door` says answers what it heard, and whatever a stop leaves of the disk that it hands back stands for what it
+//! found there and, exactly where it said 202, for the new messages behind it; one request in which the disk failed may stand too.
 #![tactic(auto)]
 
 mod command;

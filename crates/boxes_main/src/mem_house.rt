@@ -3,7 +3,8 @@
 ghost use Rattle.std.specs.Prelude.{◌≡◌, true, Some, drop, IfOk, OnOk, OnErr};
 ghost use Rattle.boxes_main.specs.Disks.{disk_under, without, areas_in, failing_in};
 ghost use Rattle.boxes_main.specs.House.{MakesOne, IsNewDisk, IsNewClock, IsToldWord};
-ghost use Rattle.store_disk.specs.MemDisk.{mem_areas, mem_calls, mem_faults};
+ghost use Rattle.store_disk.specs.MemDisk.{mem_calls, mem_faults, mem_story};
+ghost use Rattle.store_disk.specs.Story.{untold};
 
 use crate::House;
 use kn_base::{MemClock, MemPeer, MemShelf, Memory, Octets, raised};
@@ -81,7 +82,7 @@ fn take_under(disks: &mut Vec<(Octets, MemDisk)>, name: &[u8]) -> Option<MemDisk
 
 /// The disk as one that has made no call, and one that holds nothing where there is none.
 fn new_disk(alloc: Global, disk: Option<MemDisk>) -> MemDisk
-    ensures areas { mem_areas result ≡ areas_in disk }
+    ensures story { mem_story result ≡ untold (areas_in disk) }
     ensures calls { mem_calls result ≡ record { failing = failing_in disk; made = 0 } }
     ensures faults { mem_faults result ≡ 0 }
 {
@@ -143,7 +144,7 @@ impl House for MemHouse {
     /// The first disk under the name, with its failing calls. It never fails.
     fn disk(&mut self, _alloc: Global, name: &[u8]) -> Result<MemDisk, Memory>
         ensures rooms { mem_rooms self.new ≡ mem_rooms self.old }
-        ensures disk { IfOk result (λ disk. IsNewDisk true (mem_areas disk) (mem_calls disk).made (mem_faults disk) ((mem_stock self.old).disks name.now)) }
+        ensures disk { IfOk result (λ disk. IsNewDisk true (mem_story disk) (mem_calls disk).made (mem_faults disk) ((mem_stock self.old).disks name.now)) }
         ensures made { OnOk result (MakesOne (mem_stock self.old) (mem_stock self.new)) }
         ensures none { OnErr result (mem_stock self.new ≡ mem_stock self.old) }
         ensures failing { IfOk result (λ disk. (mem_calls disk).failing ≡ failing_in (disk_under name.now (disks_of self.old))) }

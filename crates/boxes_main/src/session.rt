@@ -1,8 +1,8 @@
 //! One session over an open store: it is served, and the store is closed.
 
-ghost use Rattle.std.specs.Prelude.{◌≡◌, [], ◌∷◌, Some, IfOk, map, option_map};
+ghost use Rattle.std.specs.Prelude.{◌≡◌, [], ◌∷◌, Some, IfOk, is_some, map, option_map};
 ghost use Rattle.config_groups.specs.Ranges.{AreSettings};
-ghost use Rattle.gate_store.specs.Store.{IsOpen};
+ghost use Rattle.gate_store.specs.Store.{IsOpen, unsure_in};
 ghost use Rattle.boxes_main.specs.Door.{fault_by};
 ghost use Rattle.boxes_main.specs.DoorSteps.{HasRoom, ServesOne};
 ghost use Rattle.boxes_main.specs.Worker.{worker_of};
@@ -10,9 +10,11 @@ ghost use Rattle.boxes_main.specs.Worker.{worker_of};
 use crate::failure::status;
 use crate::opening::Opened;
 use crate::{Ended, Failure, House, Role, SessionEnd, WorkerEnd};
+use gate_store::Store;
 use kn_base::{Items, Memory};
 use sendsms_http::{HttpEnd, serve_http};
 use std::alloc::Global;
+use store_disk::Disk;
 
 /// How many octets of one connection are taken.
 const OCTETS_LIMIT: u64 = 1_048_576;
@@ -20,7 +22,7 @@ const OCTETS_LIMIT: u64 = 1_048_576;
 /// What went wrong in a session.
 #[derive(Clone, Copy)]
 pub enum SessionFault {
-    /// A disk call failed in a commit.
+    /// A disk call failed in a commit, and when the store was closed the entry was unsure.
     Disk,
     /// Standard input or output failed, or was quiet.
     Connection,
@@ -30,11 +32,11 @@ pub enum SessionFault {
     Memory,
 }
 
-/// What goes wrong first, in a store that broke or not and in the session over it.
-fn fault_of(broken: bool, end: HttpEnd) -> Option<SessionFault>
-    ensures { result ≡ fault_by broken end }
+/// What a session fails by, over a store in which an entry is unsure or none is.
+fn fault_of(is_unsure: bool, end: HttpEnd) -> Option<SessionFault>
+    ensures { result ≡ fault_by is_unsure end }
 {
-    if broken {
+    if is_unsure {
         return Some(SessionFault::Disk);
     }
     match end {
@@ -46,10 +48,10 @@ fn fault_of(broken: bool, end: HttpEnd) -> Option<SessionFault>
 }
 
 /// The same as what went wrong in the command.
-fn failure_of(broken: bool, end: HttpEnd) -> Option<Failure>
-    ensures { result ≡ option_map Failure.Session (fault_by broken end) }
+fn failure_of(is_unsure: bool, end: HttpEnd) -> Option<Failure>
+    ensures { result ≡ option_map Failure.Session (fault_by is_unsure end) }
 {
-    fault_of(broken, end).map(Failure::Session)
+    fault_of(is_unsure, end).map(Failure::Session)
 }
 
 /// Room for what a session leaves, taken before anything is done.
@@ -87,6 +89,13 @@ fn leave<H: House>(room: Room<H>, clock: H::C, end: HttpEnd) -> Items<WorkerEnd<
     Items::from_vec(workers)
 }
 
+/// Whether an entry that was refused because the disk failed may stand all the same.
+fn is_unsure<D: Disk>(store: &Store<D>) -> bool
+    ensures { result ≡ is_some (unsure_in store.now) }
+{
+    store.unsure().is_some()
+}
+
 /// Serves one session over a store, and closes it.
 pub(crate) fn serve<H: House>(
     alloc: Global,
@@ -94,10 +103,10 @@ pub(crate) fn serve<H: House>(
     opened: Opened<H>,
     room: Room<H>,
 ) -> Ended<H>
-    requires open { IsOpen H.D.tells H.D.contents opened.store }
+    requires open { IsOpen H.D.tells H.D.story opened.store }
     requires in_range { AreSettings opened.settings }
     requires room { HasRoom room.ends room.workers }
-    ensures { ServesOne H.V.course H.D.tells H.D.contents H.D.faults H.C.readings opened.settings
+    ensures { ServesOne H.V.course H.D.tells H.D.story H.D.faults H.D.calls H.C.readings opened.settings
         (H.rooms house.old) (H.rooms house.new) (H.stock house.old) (H.stock house.new) opened.store
         result.status result.failure result.disk (map worker_of result.workers) }
 {
@@ -114,7 +123,7 @@ pub(crate) fn serve<H: House>(
         &mut clock,
         OCTETS_LIMIT,
     );
-    let failure = failure_of(store.is_broken(), end);
+    let failure = failure_of(is_unsure(&store), end);
     Ended {
         status: status(&failure),
         failure,

@@ -41,6 +41,8 @@ pub enum Runs {
     EachOutputCall,
     /// One run for each call of the disk, which fails, until none does.
     EachDiskCall,
+    /// One run, and of its disk, stopped in each of its calls, what `show` counts.
+    EachStop,
 }
 
 /// What a case sets up.
@@ -70,9 +72,11 @@ pub struct Case<'a> {
     pub a: &'a [u8],
     pub b: &'a [u8],
     pub pick: &'a [u8],
+    /// `failing N M ..`: the numbers of the disk's calls that fail.
+    pub failing: &'a [u8],
     /// `shown`: what the areas hold in the end is written too.
     pub shown: bool,
-    /// `each visitor call fails`, `each output call fails`, `each disk call fails`.
+    /// `each visitor call fails`, `each output call fails`, `each disk call fails`, `each stop shows`.
     pub runs: Runs,
     /// `again`, `times N`: how many runs there are.
     pub times: u64,
@@ -95,6 +99,7 @@ const WORKED: Case<'static> = Case {
     a: b"",
     b: b"",
     pick: b"",
+    failing: b"",
     shown: false,
     runs: Runs::Plain,
     times: 1,
@@ -133,6 +138,7 @@ fn add_disk_item<'a>(case: &mut Case<'a>, name: &[u8], value: &'a [u8]) {
         b"a" => case.a = value,
         b"b" => case.b = value,
         b"pick" => case.pick = value,
+        b"failing" => case.failing = value,
         b"shown" => case.shown = true,
         b"each" => case.runs = runs_of(value),
         b"again" => case.times = 2,
@@ -149,11 +155,12 @@ fn last_number(text: &[u8]) -> u64 {
     read_decimal(text, 100_000).unwrap_or(1)
 }
 
-/// Which calls fail in turn.
+/// Which calls fail in turn, or that the disk is stopped in each.
 fn runs_of(text: &[u8]) -> Runs {
     match text {
         b"disk call fails" => Runs::EachDiskCall,
         b"output call fails" => Runs::EachOutputCall,
+        b"stop shows" => Runs::EachStop,
         _ => Runs::EachVisitorCall,
     }
 }

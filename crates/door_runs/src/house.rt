@@ -129,10 +129,19 @@ fn area_of(alloc: Global, text: &[u8]) -> Result<Octets, Memory> {
     }
 }
 
-/// The disk, one call of which may fail.
+/// The numbers of the disk's calls that fail: those of the case, and maybe one more.
+fn failing_of(alloc: Global, case: Case, failing: Option<u64>) -> Result<Vec<u64>, Memory> {
+    let mut numbers = line_cases::numbers_of(alloc, case.failing)?;
+    if let Some(failing) = failing {
+        numbers.push(failing)?;
+    }
+    Ok(numbers)
+}
+
+/// The disk, of whose calls one more than the case says may fail.
 pub fn disk_of(alloc: Global, case: Case, failing: Option<u64>) -> Result<MemDisk, Memory> {
     let areas = both(area_of(alloc, case.a), area_of(alloc, case.b));
-    let others = both(area_of(alloc, case.pick), numbers_of(alloc, failing));
+    let others = both(area_of(alloc, case.pick), failing_of(alloc, case, failing));
     let ((a, b), (pick, failing)) = both(areas, others)?;
     Ok(MemDisk::new(alloc, a, b, pick, failing))
 }

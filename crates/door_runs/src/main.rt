@@ -10,6 +10,7 @@ mod failing;
 mod house;
 mod outcome;
 mod run;
+mod stops;
 
 use case::read_case;
 use kn_base::{Memory, Octets};

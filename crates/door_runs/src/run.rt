@@ -4,6 +4,7 @@ use crate::case::{Case, Runs};
 use crate::failing::{run_each_disk_call, run_each_output_call, run_each_visitor_call};
 use crate::house::{Failing, NONE_FAILS, disk_of, house_of};
 use crate::outcome::{Outcome, put_disk, put_outcome, put_said};
+use crate::stops::run_each_stop;
 use boxes_main::{House, MemHouse, door, show};
 use kn_base::{Memory, Octets, Peer};
 use line_cases::{cut_at, words_of};
@@ -82,7 +83,7 @@ fn put_left(outcome: &mut Outcome, disk: &Option<MemDisk>, shown: bool) -> Resul
 }
 
 /// Runs the command over a disk, and gives what is left of it.
-fn run(
+pub fn run(
     alloc: Global,
     case: Case,
     failing: Failing,
@@ -109,7 +110,7 @@ pub fn run_once(
 }
 
 /// Reports what a run came to.
-fn put_run(report: &mut Octets, outcome: &Outcome) -> Result<(), Memory> {
+pub fn put_run(report: &mut Octets, outcome: &Outcome) -> Result<(), Memory> {
     put_outcome(report, outcome)?;
     report.extend_from_slice(outcome.areas.as_slice())?;
     report.push(b'\n')
@@ -122,6 +123,7 @@ pub fn run_case(alloc: Global, case: Case, report: &mut Octets) -> Result<(), Me
         Runs::EachVisitorCall => run_each_visitor_call(alloc, case, report),
         Runs::EachOutputCall => run_each_output_call(alloc, case, report),
         Runs::EachDiskCall => run_each_disk_call(alloc, case, report),
+        Runs::EachStop => run_each_stop(alloc, case, report),
     }
 }
 
@@ -155,15 +157,20 @@ fn run_times(
     Ok(Some(disk))
 }
 
+/// The case with `show` in the place of its command.
+pub fn showing(case: Case) -> Case {
+    let mut case = case;
+    case.words = b"show gate.conf";
+    case
+}
+
 /// Runs a case as often as it says, and then `show`, where it says that.
 fn run_all(alloc: Global, case: Case, report: &mut Octets) -> Result<(), Memory> {
     let disk = disk_of(alloc, case, None)?;
     let left = run_times(alloc, case, disk, report)?;
     match left {
         Some(disk) if case.then_show => {
-            let mut case = case;
-            case.words = b"show gate.conf";
-            run_over(alloc, case, disk, report)?;
+            run_over(alloc, showing(case), disk, report)?;
             Ok(())
         }
         _ => Ok(()),

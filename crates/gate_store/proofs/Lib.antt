@@ -9,5 +9,6 @@ pub mod Passing
 pub mod Recording
 pub mod Refusals
 pub mod Reopened
+pub mod Standing
 pub mod Told
 pub mod Turns

@@ -1,5 +1,5 @@
 -- What areas reopen to, and what a stop leaves of a store.
-use Rattle.std.specs.Prelude.{◌≡◌, ◌⊎◌, ℕ, List, Option, Some, None}
+use Rattle.std.specs.Prelude.{◌≡◌, ◌⊎◌, ℕ, List, [], ◌∷◌, ◌++◌, Option, Some, None}
 use Rattle.gate_entries.specs.declared.recorded.Recorded.{Recorded}
 use Rattle.gate_model.specs.Fold.{does, recorded}
 use Rattle.gate_model.specs.Settling.{settle}
@@ -35,3 +35,8 @@ MayReopenIn rules state unsure kept areas = MayReopen rules state unsure areas �
 abbrev pub ReopensAlike : Rules → Story → Story → Type 0
 ReopensAlike rules old new =
     LeavesOnly old new (λ image. (before : Areas) × IsImage old before × ((state : State) → Reopens rules before state → Reopens rules image state))
+
+-- Areas stand for the store of a birth with these entries, or, where one is unsure, for these with it behind them.
+abbrev pub MayStandFor : (birth : ℕ) → List Recorded → (unsure : Option Recorded) → Areas → Type 0
+MayStandFor birth entries None areas = StandsFor (stands areas) birth entries
+MayStandFor birth entries (Some unsure) areas = StandsFor (stands areas) birth entries ⊎ StandsFor (stands areas) birth (entries ++ unsure ∷ [])

@@ -14,7 +14,7 @@ ghost use Rattle.store_disk.specs.Story.{IsImage};
 ghost use Rattle.store_journal.specs.Journal.{reserved};
 ghost use Rattle.gate_store.specs.Deeds.{Performs, Passes};
 ghost use Rattle.gate_store.specs.Entries.{start};
-ghost use Rattle.gate_store.specs.Reopening.{MayReopen};
+ghost use Rattle.gate_store.specs.Reopening.{MayReopen, MayStandFor};
 ghost use Rattle.gate_store.specs.Store.{IsStore, IsOpen, IsOpened, GivesBack, disk_in, birth_in, rules_in, state_in, unsure_in};
 ghost use Rattle.gate_store.specs.StoreSteps.{MayRecord, Reserves, Settles, Commits};
 
@@ -226,6 +226,8 @@ impl<D: Disk> Store<D> {
     /// entry is unsure, to what the state is with it.
     pub fn close(self) -> D
         ensures disk { result ≡ disk_in self }
+        ensures stands { (birth : ℕ) (entries : List Recorded) → IsStore D.tells D.story self birth entries
+            → OnTrue D.tells ((image : Areas) → IsImage (D.story result) image → MayStandFor birth entries (unsure_in self) image) }
         ensures stops { (birth : ℕ) (entries : List Recorded) → IsStore D.tells D.story self birth entries
             → OnTrue D.tells ((image : Areas) → IsImage (D.story result) image → MayReopen (rules_in self) (state_in self) (unsure_in self) image) }
     {

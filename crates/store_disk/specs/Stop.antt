@@ -1,6 +1,7 @@
 -- What a stop leaves of the areas of a disk in memory, by what is chosen for what is in doubt.
 use Rattle.std.specs.Prelude.{◌≡◌, ◌⊎◌, ◌≤◌, ◌<◌, ℕ, ◌+◌, Bool, true, false, ◌&&◌, ◌||◌, nat_lt, nat_le, ◌==◌, List, [], ◌∷◌, length, map, get_or, if◌then◌else◌}
 use Rattle.std.specs.List.{AllByRecursion, range_with_len}
+use Rattle.kn_base.specs.Count.{last_count, next_count}
 use Rattle.store_disk.specs.Disk.{same_area}
 use Rattle.store_disk.specs.MemDisk.{mem_calls, mem_log, octets_before}
 use Rattle.store_disk.specs.Story.{Past}
@@ -34,10 +35,20 @@ stopped_octets past choice = octets_left past.settled past.ranges past.octets ch
 
 -- ---- the log, its last entry first
 
--- how many entries are of the calls up to a number
+-- a deed is a good sync
+abbrev pub is_synced : Deed → Bool
+is_synced (Wrote at count was) = false
+is_synced (Cut size was) = false
+is_synced Synced = true
+
+-- a stop in the call of a number comes before an entry: it is of a later call, or of that call and a sync, which has put nothing in place yet
+abbrev pub is_later : ℕ → Entry → Bool
+is_later call entry = nat_lt call entry.call || (is_synced entry.deed && entry.call == call)
+
+-- how many entries stand before a stop in the call of a number
 abbrev pub moment_at : ℕ → List Entry → ℕ
 moment_at call [] = 0
-moment_at call (entry ∷ log) = if nat_lt call entry.call then moment_at call log else length log + 1
+moment_at call (entry ∷ log) = if is_later call entry then moment_at call log else length log + 1
 
 -- an area before an entry
 abbrev pub octets_back : Area → Entry → List ℕ → List ℕ
@@ -47,12 +58,6 @@ octets_back area entry octets = if same_area area entry.area then octets_before 
 abbrev pub octets_through : Area → List Entry → List ℕ → List ℕ
 octets_through area [] octets = octets
 octets_through area (entry ∷ log) octets = octets_through area log (octets_back area entry octets)
-
--- a deed is a good sync
-abbrev pub is_synced : Deed → Bool
-is_synced (Wrote at count was) = false
-is_synced (Cut size was) = false
-is_synced Synced = true
 
 -- an entry is a good sync of an area
 abbrev pub is_sync : Area → Entry → Bool
@@ -89,7 +94,7 @@ ranges_in area (entry ∷ log) =
 abbrev pub is_made : ℕ → MemDisk → Bool
 is_made call disk = nat_lt call (mem_calls disk).made
 
--- the moment at the end of a call, or of all where it wasn't made
+-- the moment of a stop in a call, or the last one where it wasn't made
 abbrev pub stop_moment : ℕ → MemDisk → ℕ
 stop_moment call disk = if is_made call disk then moment_at call (mem_log disk) else length (mem_log disk)
 
@@ -97,16 +102,17 @@ stop_moment call disk = if is_made call disk then moment_at call (mem_log disk) 
 abbrev pub stop_choice : ℕ → ℕ → MemDisk → ℕ
 stop_choice call choice disk = if is_made call disk then choice else 1
 
--- the number of each entry is that of a call that was made
+-- the number of each entry is that of a call that was made; the count of calls stands still at its end
 abbrev pub IsNumbered : MemDisk → Type 0
-IsNumbered disk = AllByRecursion (λ entry. entry.call ≤ (mem_calls disk).made) (mem_log disk)
+IsNumbered disk = AllByRecursion (λ entry. next_count entry.call ≤ (mem_calls disk).made) (mem_log disk)
 
--- One call more: a stop in it leaves what is told now, and one in a call before it what it left before.
-pub record NumbersCall (old new : MemDisk) : Type 0 where
+-- One call more: a stop in it leaves what is told now, or before it where it is a sync, which has put nothing in place yet; and one in
+-- a call before it what it left before.
+pub record NumbersCall (syncs : Bool) (old new : MemDisk) : Type 0 where
   pub numbered : IsNumbered old → IsNumbered new
-  pub this : IsNumbered old → stop_moment (mem_calls old).made new ≡ length (mem_log new)
+  pub this : IsNumbered old → (mem_calls old).made < last_count → stop_moment (mem_calls old).made new ≡ length (mem_log (if syncs then old else new))
   pub earlier : (call : ℕ) → call < (mem_calls old).made → stop_moment call new ≡ stop_moment call old
 
 -- a call noted one entry under its number, or none
-abbrev pub NotesOne : ℕ → List Entry → List Entry → Type 0
-NotesOne call old new = (new ≡ old) ⊎ ((entry : Entry) × (new ≡ entry ∷ old) × (entry.call ≡ call))
+abbrev pub NotesOne : (syncs : Bool) → ℕ → List Entry → List Entry → Type 0
+NotesOne syncs call old new = (new ≡ old) ⊎ ((entry : Entry) × (new ≡ entry ∷ old) × (entry.call ≡ call) × (is_synced entry.deed ≡ syncs))

@@ -57,7 +57,7 @@ fn put_back(
 }
 
 impl Entry {
-    ghost use Rattle.store_disk.specs.Stop.{is_sync, octets_back};
+    ghost use Rattle.store_disk.specs.Stop.{is_later, is_sync, octets_back};
 
     /// An area before the call.
     pub fn before(&self, alloc: Global, area: Area, octets: Octets) -> Result<Octets, Memory>
@@ -67,6 +67,14 @@ impl Entry {
             return Ok(octets);
         }
         self.deed.before(alloc, octets)
+    }
+
+    /// Whether a stop in the call of a number comes before this one: it is a later call, or that one and a sync, which has put nothing
+    /// in place yet.
+    pub fn is_later(&self, call: u64) -> bool
+        ensures { result ≡ is_later call self.now }
+    {
+        call < self.call || (self.deed.is_synced() && self.call == call)
     }
 
     /// Whether the call was a good sync of an area.

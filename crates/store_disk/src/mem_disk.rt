@@ -110,9 +110,9 @@ impl MemDisk {
     ghost use Rattle.store_disk.specs.Stop.{IsNumbered, stop_choice, stop_moment, stopped_octets};
     ghost use Rattle.store_disk.specs.Story.{IsImage, IsImageSince, past_of, untold, up_to};
 
-    /// The disk after a stop in the call of this number, as one on which no call was made. Of what that call and those before it left
-    /// in doubt, choice 0 keeps the old octets and the old length, 1 takes the new ones, and any other octet stands at each place in
-    /// doubt, in the new length. Where no such call was made it is the disk as it reads.
+    /// The disk after a stop in the call of this number, as one on which no call was made: a sync has put nothing in place yet. Of what that
+    /// call and those before it left in doubt, choice 0 keeps the old octets and the old length, 1 takes the new ones, and any other octet
+    /// stands at each place in doubt, in the new length. Where no such call was made it is the disk as it reads.
     pub fn stopped(&self, alloc: Global, call: u64, choice: u8) -> Result<MemDisk, Memory>
         ensures octets { IfOk result (λ stopped. (area : Area) → octets_of (mem_areas stopped) area ≡ stopped_octets (past_of (up_to (stop_moment call self.now) (mem_story self.now)) area) (stop_choice call choice self.now)) }
         ensures image { IfOk result (λ stopped. IsImage (up_to (stop_moment call self.now) (mem_story self.now)) (mem_areas stopped)) }
@@ -142,7 +142,7 @@ impl MemDisk {
         Ok(MemDisk::new(alloc, a, b, pick, Vec::new(alloc)))
     }
 
-    // The moment at the end of a call, and what is chosen there.
+    // The moment of a stop in a call, and what is chosen there.
     fn stop(&self, call: u64, choice: u8) -> (usize, u8)
         ensures moment { result.0 ≡ stop_moment call self.now }
         ensures choice { result.1 ≡ stop_choice call choice self.now }
@@ -295,7 +295,7 @@ impl MemDisk {
 
 // The calls, before their faults are counted.
 impl MemDisk {
-    ghost use Rattle.std.specs.Prelude.{◌⊎◌, IsTrue};
+    ghost use Rattle.std.specs.Prelude.{◌⊎◌, true, IsTrue};
     ghost use Rattle.store_disk.specs.Stop.{NotesOne, NumbersCall};
     ghost use Rattle.store_disk.specs.MemDisk.{mem_areas, mem_calls, mem_faults, mem_log, mem_starved, mem_story};
     ghost use Rattle.kn_base.specs.Count.{Rose, last_count};
@@ -313,7 +313,7 @@ impl MemDisk {
         requires { IsWithin (mem_areas self.old) area at }
         ensures written { Writes area at bytes.now result (mem_story self.old) (mem_story self.new) }
         ensures told { OnErr result (FailsToWrite area at bytes.now (mem_story self.old) (mem_story self.new) ⊎ Rose (mem_starved self.old) (mem_starved self.new)) }
-        ensures noted { NotesOne call (mem_log self.old) (mem_log self.new) }
+        ensures noted { NotesOne false call (mem_log self.old) (mem_log self.new) }
         ensures due { OnOk result (fails ≡ false) }
         ensures unwritten { OnErr result (mem_areas self.new ≡ mem_areas self.old) }
         ensures calls { mem_calls self.new ≡ mem_calls self.old }
@@ -336,7 +336,7 @@ impl MemDisk {
         requires { IsWithin (mem_areas self.old) area size }
         ensures cut { Cuts area size result (mem_story self.old) (mem_story self.new) }
         ensures told { OnErr result (FailsToCut area size (mem_story self.old) (mem_story self.new) ⊎ Rose (mem_starved self.old) (mem_starved self.new)) }
-        ensures noted { NotesOne call (mem_log self.old) (mem_log self.new) }
+        ensures noted { NotesOne false call (mem_log self.old) (mem_log self.new) }
         ensures due { OnOk result (fails ≡ false) }
         ensures uncut { OnErr result (mem_areas self.new ≡ mem_areas self.old) }
         ensures calls { mem_calls self.new ≡ mem_calls self.old }
@@ -356,7 +356,7 @@ impl MemDisk {
     // A sync, which may be one that fails. It fails too where it can't be noted.
     fn settle(&mut self, call: u64, area: Area, fails: bool) -> Result<(), DiskFailed>
         ensures synced { Syncs area result (mem_story self.old) (mem_story self.new) }
-        ensures noted { NotesOne call (mem_log self.old) (mem_log self.new) }
+        ensures noted { NotesOne true call (mem_log self.old) (mem_log self.new) }
         ensures due { OnOk result (fails ≡ false) }
         ensures areas { mem_areas self.new ≡ mem_areas self.old }
         ensures calls { mem_calls self.new ≡ mem_calls self.old }
@@ -392,7 +392,7 @@ impl MemDisk {
         ensures fails { IsErr result ↔ IsFailing (mem_calls self.old) }
         ensures calls { mem_calls self.new ≡ one_more (mem_calls self.old) }
         ensures counted { CountsCall (mem_calls self.old).made (mem_calls self.new).made (mem_faults self.old) (mem_faults self.new) result }
-        ensures numbered { NumbersCall self.old self.new }
+        ensures numbered { NumbersCall false self.old self.new }
         ensures areas { mem_areas self.new ≡ mem_areas self.old }
         ensures story { mem_story self.new ≡ mem_story self.old }
     {
@@ -447,7 +447,7 @@ impl Disk for MemDisk {
         ensures areas { mem_areas self.new ≡ mem_areas self.old }
         ensures fails { IsErr result ↔ IsFailing (mem_calls self.old) }
         ensures calls { mem_calls self.new ≡ one_more (mem_calls self.old) }
-        ensures numbered { NumbersCall self.old self.new }
+        ensures numbered { NumbersCall false self.old self.new }
     {
         self.begin()?;
         Ok(self.area(area).len() as u64)
@@ -461,7 +461,7 @@ impl Disk for MemDisk {
         ensures areas { mem_areas self.new ≡ mem_areas self.old }
         ensures fails { IsErr result ↔ IsFailing (mem_calls self.old) }
         ensures calls { mem_calls self.new ≡ one_more (mem_calls self.old) }
-        ensures numbered { NumbersCall self.old self.new }
+        ensures numbered { NumbersCall false self.old self.new }
     {
         self.begin()?;
         self.copy_out(area, at as usize, into);
@@ -479,7 +479,7 @@ impl Disk for MemDisk {
         ensures unwritten { OnErr result (mem_areas self.new ≡ mem_areas self.old) }
         ensures due { OnOk result (¬ IsFailing (mem_calls self.old)) }
         ensures calls { mem_calls self.new ≡ one_more (mem_calls self.old) }
-        ensures numbered { NumbersCall self.old self.new }
+        ensures numbered { NumbersCall false self.old self.new }
     {
         let (call, is_failing) = self.next_call();
         let fails = is_failing || ends_late(at, bytes.len() as u64);
@@ -496,7 +496,7 @@ impl Disk for MemDisk {
         ensures uncut { OnErr result (mem_areas self.new ≡ mem_areas self.old) }
         ensures due { OnOk result (¬ IsFailing (mem_calls self.old)) }
         ensures calls { mem_calls self.new ≡ one_more (mem_calls self.old) }
-        ensures numbered { NumbersCall self.old self.new }
+        ensures numbered { NumbersCall false self.old self.new }
     {
         let (call, fails) = self.next_call();
         let done = self.shorten(call, area, size as usize, fails);
@@ -509,7 +509,7 @@ impl Disk for MemDisk {
         ensures areas { mem_areas self.new ≡ mem_areas self.old }
         ensures due { OnOk result (¬ IsFailing (mem_calls self.old)) }
         ensures calls { mem_calls self.new ≡ one_more (mem_calls self.old) }
-        ensures numbered { NumbersCall self.old self.new }
+        ensures numbered { NumbersCall true self.old self.new }
     {
         let (call, fails) = self.next_call();
         let done = self.settle(call, area, fails);

@@ -9,14 +9,14 @@ use crate::entry::Entry;
 use kn_base::{Memory, Octets};
 use std::alloc::Global;
 
-/// How many entries are of the calls up to a number.
+/// How many entries stand before a stop in the call of a number.
 pub fn entries_up_to(log: &[Entry], call: u64) -> usize
     ensures exact { result ≡ moment_at call (reverse log.now) }
     ensures within { result ≤ length log.now }
 {
     for i in 0..log.len() {
         let left = log.len() - i;
-        if log[left - 1].call <= call {
+        if !log[left - 1].is_later(call) {
             return left;
         }
     }

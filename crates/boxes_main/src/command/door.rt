@@ -19,7 +19,7 @@ use std::alloc::Global;
 
 /// Does all that the words ask for, but for the line on standard error.
 fn run<H: House>(alloc: Global, words: &[Octets], house: &mut H) -> Ended<H>
-    ensures { Ends H.V.course H.S.files H.S.faults H.D.tells H.D.contents H.D.faults H.C.readings
+    ensures { Ends H.V.course H.S.files H.S.faults H.D.tells H.D.story H.D.faults H.D.calls H.C.readings
         (configuration_of (codes "door") words.now) (H.rooms house.old) (H.rooms house.new) (H.stock house.old) (H.stock house.new)
         result.status result.failure result.disk (map worker_of result.workers) }
 {
@@ -38,9 +38,9 @@ fn run<H: House>(alloc: Global, words: &[Octets], house: &mut H) -> Ended<H>
 /// Serves one connection over HTTP on the house's visitor: `door CONF`. At most 1,048,576 octets of it are taken.
 ///
 /// The statuses are 0 where the input was read to its end or to a closing answer, 2 for other words, 3 for a configuration that is
-/// refused or names no store, 4 where the disk holds no store, 5 where a disk call failed in opening or in a commit, 6 where the
-/// visitor failed or was quiet, 7 where as many octets were taken as may be and no end came, 9 for want of memory outside a request
-/// that was answered so.
+/// refused or names no store, 4 where the disk holds no store, 5 where a disk call failed in opening, or in a commit whose entry was unsure
+/// when the store was closed, 6 where the visitor failed or was quiet, 7 where as many octets were taken as may be and no end came, 9 for
+/// want of memory outside a request that was answered so. It is the first that happens, but where an entry is unsure at the close it is 5.
 pub fn door<H: House>(alloc: Global, words: &[Octets], house: &mut H) -> Ended<H>
     ensures status { result.status ≡ status_of result.failure }
     ensures line { Tells result.failure (H.Er.course (H.rooms house.old).errors) (H.Er.course (H.rooms house.new).errors) }
@@ -51,7 +51,7 @@ pub fn door<H: House>(alloc: Global, words: &[Octets], house: &mut H) -> Ended<H
     ensures made { MakesFor result.disk (H.stock house.old) (H.stock house.new) }
 
     // What was read, said and stored, and why not.
-    ensures comes_to { ComesTo H.V.course H.S.files H.S.faults H.D.tells H.D.contents H.D.faults H.C.readings
+    ensures comes_to { ComesTo H.V.course H.S.files H.S.faults H.D.tells H.D.story H.D.faults H.D.calls H.C.readings
         (configuration_of (codes "door") words.now) (H.rooms house.old) (H.rooms house.new) (H.stock house.old)
         (map worker_of result.workers) result.disk result.failure }
 {

@@ -19,3 +19,12 @@ returns-in-Lack g c =
     rw c.in-Lack.is
     (subst (λ group. P group c.in-Lack.variable.now) (c.as_bytes-in-Lack.ensures.value ∙ c.format-in-Lack.ensures.text)
     (subst (λ variable. P c.as_bytes-in-Lack.result.now variable) c.as_slice.ensures c.give_parts-in-Lack.ensures))
+
+pub returns-in-Misfit : goal.returns-in-Misfit
+returns-in-Misfit g c =
+    let course = g.S.Meter.course in
+    let P : List ℕ → List ℕ → Type 0 = λ area place. GivesText (codes "boxes: store: area " ++ area ++ codes " at " ++ place ++ 10 ∷ [])
+    c.give_parts-in-Misfit.result (course c.args.errors.now) (course c.give_parts-in-Misfit.new.errors) in
+    rw c.in-Misfit.is
+    (subst (λ area. P area (decimal c.in-Misfit.at)) c.word_of.ensures
+    (subst (λ place. P c.word_of.result.now place) (c.as_bytes-in-Misfit.ensures.value ∙ c.format-in-Misfit.ensures.text) c.give_parts-in-Misfit.ensures))
