@@ -1,5 +1,5 @@
 -- A message as a frame says it, whatever the protocol (docs/FORMATS.md, 'Messages that are heard').
-use Rattle.std.specs.Prelude.{ℕ, ◌%◌, ◌-◌, ◌||◌, true, Bool, List, [], length, map, take, Option, if◌then◌else◌}
+use Rattle.std.specs.Prelude.{ℕ, ◌%◌, ◌-◌, ◌||◌, Bool, List, [], length, map, take, Option, if◌then◌else◌}
 use Rattle.kn_base.specs.declared.charset.Charset.{Charset}
 use Rattle.kn_base.specs.declared.charset.Charset.TheVariants.{Utf8, Utf16Be}
 use Rattle.sms_record.specs.declared.address.Address.{Address}

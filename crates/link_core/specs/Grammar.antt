@@ -27,7 +27,7 @@ pub record IsGrammar (hears : List ℕ → Heard → Type 0) (holds : ℕ → Ty
   pub one : (x y behind behind' : List ℕ) (heard heard' : Heard) → hears x heard → hears y heard' → x ++ behind ≡ y ++ behind' → (x ≡ y) × (heard ≡ heard')
   -- each has an octet, and at most so many
   pub some : (x : List ℕ) (heard : Heard) → hears x heard → 0 < length x
-  pub most : (x : List ℕ) (heard : Heard) → hears x heard → length x ≤ most
+  pub within : (x : List ℕ) (heard : Heard) → hears x heard → length x ≤ most
   -- its tag is one that a frame has room for
   pub held : (x : List ℕ) (heard : Heard) → hears x heard → holds (heard_tag heard)
   pub sound : (x : List ℕ) (heard : Heard) → hears x heard → IsSound heard

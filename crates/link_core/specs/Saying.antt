@@ -23,11 +23,11 @@ out_tag (out.Nack tag id) = tag
 
 -- a message that may be said: it has a record, the protocol carries it, and it was asked for before it is said
 pub record IsSubmit (kind : LinkKind) (number : ℕ) (sms : Sms) (now : ℕ) : Type 0 where
-  pub number : number < 2 ^ 63
-  pub sms : IsSms sms
+  pub numbered : number < 2 ^ 63
+  pub recorded : IsSms sms
   pub carried : carries kind sms ≡ true
   pub asked : sms.time ≤ now
-  pub now : now < 2 ^ 37
+  pub early : now < 2 ^ 37
 
 -- the protocol can hear it: some frame says it
 abbrev pub CanHear : (List ℕ → Heard → Type 0) → Heard → Type 0
@@ -48,4 +48,4 @@ MaySay kind hears (out.Nack tag id) = (from : ℕ) × CanHear hears (heard.Stran
 pub record IsFrameWith (hears : List ℕ → Heard → Type 0) (tag : ℕ) (octets : List ℕ) : Type 0 where
   pub heard : Heard
   pub frame : hears octets heard
-  pub tag : heard_tag heard ≡ tag
+  pub tagged : heard_tag heard ≡ tag

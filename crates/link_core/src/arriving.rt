@@ -1,10 +1,9 @@
 //! A message that a centre says, and its parts as a frame has them.
 
-ghost use Rattle.std.specs.Prelude.{◌≡◌, ◌%◌, ◌≤◌, map, length, IfOk};
+ghost use Rattle.std.specs.Prelude.{◌≡◌, ◌%◌, map, take, IfOk};
 ghost use Rattle.std.specs.Char.{is_ascii_digit};
 ghost use Rattle.std.specs.List.{list_all};
-ghost use Rattle.sms_record.specs.Record.{IsAddress, IsOfCoding};
-ghost use Rattle.sms_record.specs.declared.limits.TheConstants.{MOST_BODY as MOST, MOST_DIGITS as DIGITS};
+ghost use Rattle.sms_record.specs.declared.limits.TheConstants.{MOST_DIGITS as DIGITS};
 ghost use Rattle.config_values.specs.Values as values;
 ghost use Rattle.link_core.specs.Arrivals as spec;
 
@@ -56,6 +55,17 @@ pub fn arrival(
     }
 }
 
+/// The first octets, so many at most.
+fn front(octets: &[u8], most: usize) -> &[u8]
+    ensures { result.now ≡ take most octets.now }
+{
+    if octets.len() <= most {
+        octets
+    } else {
+        &octets[..most]
+    }
+}
+
 /// Whether a `+` stands first, and what stands behind it.
 fn cut_plus(text: &[u8]) -> (bool, &[u8])
     ensures plus { result.0 ≡ values.has_plus text.now }
@@ -86,8 +96,7 @@ fn is_number(text: &[u8]) -> bool
 /// # Errors
 /// `Memory`.
 pub fn heard_address(alloc: Global, international: bool, text: &[u8]) -> Result<Address, Memory>
-    ensures value { IfOk result (λ address. address ≡ spec.address_of international text.now) }
-    ensures address { IfOk result IsAddress }
+    ensures { IfOk result (λ address. address ≡ spec.address_of international text.now) }
 {
     let (plus, digits) = cut_plus(text);
     if is_number(digits) {
@@ -95,8 +104,8 @@ pub fn heard_address(alloc: Global, international: bool, text: &[u8]) -> Result<
         let digits = Octets::from_slice(alloc, digits)?;
         return Ok(Address::Number { plus, digits });
     }
-    let kept = text.len().min(usize::from(MOST_TEXT));
-    Ok(Address::Text(Octets::from_slice(alloc, &text[..kept])?))
+    let text = Octets::from_slice(alloc, front(text, usize::from(MOST_TEXT)))?;
+    Ok(Address::Text(text))
 }
 
 /// Octets without their top bits.
@@ -116,11 +125,9 @@ fn septets_of(alloc: Global, octets: &[u8]) -> Result<Octets, Memory>
 /// # Errors
 /// `Memory`.
 pub fn heard_body(alloc: Global, coding: Coding, octets: &[u8]) -> Result<Octets, Memory>
-    ensures value { IfOk result (λ body. body ≡ spec.body_of coding octets.now) }
-    ensures len { IfOk result (λ body. length body ≤ MOST) }
-    ensures coding { IfOk result (IsOfCoding coding) }
+    ensures { IfOk result (λ body. body ≡ spec.body_of coding octets.now) }
 {
-    let kept = &octets[..octets.len().min(MOST_BODY as usize)];
+    let kept = front(octets, MOST_BODY as usize);
     match coding {
         Coding::Seven => septets_of(alloc, kept),
         Coding::Eight => Octets::from_slice(alloc, kept),

@@ -6,7 +6,9 @@ use sms_record::Sms;
 #[derive(Drop)]
 pub enum Out {
     /// Begins the session, with the name and the password of the link.
-    Login { tag: u32 },
+    Login {
+        tag: u32,
+    },
     /// A message with its number in the store, at a reading of the clock in Unix seconds.
     Submit {
         tag: u32,
@@ -15,15 +17,29 @@ pub enum Out {
         now: u64,
     },
     /// Answers a report well.
-    ReportReply { tag: u32 },
+    ReportReply {
+        tag: u32,
+    },
     /// Answers a message: it was taken, or there was no room for it.
-    MessageReply { tag: u32, good: bool },
+    MessageReply {
+        tag: u32,
+        good: bool,
+    },
     /// Asks whether the centre is there.
-    Keep { tag: u32 },
+    Keep {
+        tag: u32,
+    },
     /// Answers that question.
-    KeepReply { tag: u32 },
+    KeepReply {
+        tag: u32,
+    },
     /// Answers the end of a session.
-    ByeReply { tag: u32 },
+    ByeReply {
+        tag: u32,
+    },
     /// Answers a strange frame, by what it calls itself.
-    Nack { tag: u32, id: u32 },
+    Nack {
+        tag: u32,
+        id: u32,
+    },
 }
