@@ -1,0 +1,49 @@
+-- A header is parted from its text exactly where one stands first that a message may have.
+use Rattle.std.proofs.Common.{◌≡◌, ℕ, ◌+◌, ◌≤◌, Bool, true, false, cond, List, [], ◌∷◌, ◌++◌, length, Result, Ok, Err, refl, sym, ap, ◌∙◌, arith, inl, inr, leb-true}
+use Rattle.std.specs.Prelude.{nat_le}
+use Rattle.std.proofs.lemmas.Bool.{cases_Bool, le-leb}
+use Rattle.exact_octets.specs.declared.read_fault.ReadFault.{ReadFault}
+use Rattle.exact_octets.specs.declared.read_fault.ReadFault.TheVariants as faults
+use Rattle.exact_octets.proofs.Readers.{AreOctets, Answers}
+use Rattle.sms_record.specs.declared.limits.TheConstants.{MOST_HEADER}
+use Rattle.sms_record.specs.Header.{Element, elements, header, IsHeaderOrNone}
+use Rattle.sms_record.specs.HeaderReading.{header_at}
+use Rattle.sms_record.proofs.Headers.{header_reads}
+use Rattle.smpp_link.specs.Delivery.{parted, part_header}
+
+abbrev Read : Type 0
+Read = Result (List Element × List ℕ) ReadFault
+
+-- what is parted off may be the header of a message
+parted_good : (octets : List ℕ) (read : Read) → (length (parted octets read).0 ≤ MOST_HEADER) × IsHeaderOrNone (parted octets read).0
+parted_good octets (Ok x) =
+    elim (cases_Bool (nat_le (length (header x.0)) MOST_HEADER)) [
+      | inl is ↦ rw is (leb-true (length (header x.0)) MOST_HEADER is, inr (x.0, refl))
+      | inr other ↦ rw other (omega arith, inl refl)
+    ]
+parted_good octets (Err fault) = (omega arith, inl refl)
+
+pub header_good : (octets : List ℕ) → (length (part_header octets).0 ≤ MOST_HEADER) × IsHeaderOrNone (part_header octets).0
+unfolding part_header
+header_good octets = parted_good octets (header_at octets)
+
+-- a header that stands first is parted off
+pub header_parted : (es : List Element) (rest : List ℕ) → length (header es) ≤ MOST_HEADER → (header es, rest) ≡ part_header (header es ++ rest)
+unfolding part_header
+header_parted es rest short =
+    let read : header_at (header es ++ rest) ≡ Ok (es, rest) = header_reads.again es rest (omega (arith, short)) in
+    let is : nat_le (length (header es)) MOST_HEADER ≡ true = le-leb (length (header es)) MOST_HEADER short in
+    rw read (rw is refl)
+
+no_header_read : (octets : List ℕ) (read : Read) → Answers (λ es. length (elements es) + 1 ≤ 256) header octets read → ((es : List Element) (rest : List ℕ) → octets ≡ header es ++ rest → length (header es) ≤ MOST_HEADER → ⊥) → ([], octets) ≡ parted octets read
+no_header_read octets (Ok x) answers none =
+    elim (cases_Bool (nat_le (length (header x.0)) MOST_HEADER)) [
+      | inl is ↦ absurd (none x.0 x.1 answers.1 (leb-true (length (header x.0)) MOST_HEADER is))
+      | inr other ↦ rw other refl
+    ]
+no_header_read octets (Err fault) answers none = refl
+
+-- where none stands first nothing is
+pub no_header_parted : (octets : List ℕ) → AreOctets octets → ((es : List Element) (rest : List ℕ) → octets ≡ header es ++ rest → length (header es) ≤ MOST_HEADER → ⊥) → ([], octets) ≡ part_header octets
+unfolding part_header
+no_header_parted octets fits none = no_header_read octets (header_at octets) (header_reads.answers octets fits) none
