@@ -2,3 +2,4 @@ pub mod Delivery
 pub mod Hearing
 pub mod Saying
 pub mod Tags
+pub mod Laws

@@ -6,6 +6,7 @@ ghost use Rattle.smpp_wire.specs.Command.{Bind, fields_of};
 ghost use Rattle.smpp_wire.specs.Grammar.{IsBind};
 ghost use Rattle.config_groups.specs.Ranges.{IsLogin};
 ghost use Rattle.smpp_link.specs.Hearing.{Hears, Refuses};
+ghost use Rattle.smpp_link.specs.Laws as laws;
 ghost use Rattle.smpp_link.specs.Saying as saying;
 ghost use Rattle.smpp_link.specs.Tags as numbers;
 
@@ -110,9 +111,9 @@ impl LinkCore for SmppCore {
 
     ghost tags = { numbers.last_tag };
 
-    ghost grammar = { ? };
+    ghost grammar = { laws.grammar };
 
-    ghost turns = { ? };
+    ghost turns = { laws.turns };
 
     fn read(&self, alloc: Global, octets: &[u8]) -> Result<Framed, Memory> {
         Ok(match read_frame(octets) {
