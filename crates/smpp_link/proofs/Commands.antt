@@ -1,13 +1,11 @@
 -- What commands are heard as keeps to the laws of a protocol.
 use Rattle.std.proofs.Common.{◌≡◌, ℕ, ◌+◌, ◌/◌, ◌%◌, ◌<◌, ◌≤◌, ◌^◌, Bool, true, false, cond, List, [], ◌∷◌, ◌++◌, length, IfSome, refl, sym, ap, subst, ◌∙◌, arith, length-append, inl, inr}
 use Rattle.std.specs.Prelude.{nat_lt, ◌==◌, ◌||◌}
-use Rattle.std.proofs.lemmas.Bool.{cases_Bool}
+use Rattle.std.proofs.lemmas.Bool.{cases_Bool, eqb-true}
 use Rattle.exact_octets.specs.Fronts.{Begins, IsProperFront, BreaksOffAt}
 use Rattle.exact_octets.specs.Numbers.{number}
 use Rattle.sms_record.specs.declared.limits.TheConstants.{MOST_BODY, MOST_HEADER}
 use Rattle.sms_record.specs.Header.{IsHeaderOrNone}
-use Rattle.smpp_wire.specs.declared.row.Row.{Row}
-use Rattle.smpp_wire.specs.declared.row.Row.TheVariants as row
 use Rattle.smpp_wire.specs.declared.frame.Frame.{Frame}
 use Rattle.smpp_wire.specs.declared.frame.Frame.TheVariants as answer
 use Rattle.smpp_wire.specs.declared.command.TheConstants.{GENERIC_NACK, SUBMIT_SM_RESP, DELIVER_SM, DELIVER_SM_RESP, UNBIND, UNBIND_RESP, BIND_TRANSCEIVER_RESP, ENQUIRE_LINK, ENQUIRE_LINK_RESP}
@@ -66,23 +64,14 @@ told_sound id tag status =
       (chosen IsSound (id == ENQUIRE_LINK) _ _ tt (chosen IsSound (id == ENQUIRE_LINK_RESP || id == DELIVER_SM_RESP) _ _ tt
         (chosen IsSound (id == GENERIC_NACK) _ _ tt tt)))))
 
-reply_short : (r : Row) (message_id : List ℕ) → IsOf r (SubmitReply message_id) → length message_id ≤ MOST_BODY
-reply_short row.Bind message_id is = absurd is
-reply_short row.BindReply message_id is = absurd is
-reply_short row.Message message_id is = absurd is
-reply_short row.SubmitReply message_id is = omega (arith, is.1)
-reply_short row.DeliverReply message_id is = absurd is
-reply_short row.Nothing message_id is = absurd is
-reply_short row.Any message_id is = absurd is
-
-foreign_short : (r : Row) (fields : Fields) → IsOf r fields → length (foreign_in fields) ≤ MOST_BODY
-foreign_short r (SubmitReply message_id) is = reply_short r message_id is
-foreign_short r (Bind b) is = omega arith
-foreign_short r (BindReply system_id tlvs) is = omega arith
-foreign_short r (Message m) is = omega arith
-foreign_short r DeliverReply is = omega arith
-foreign_short r Nothing is = omega arith
-foreign_short r (Any octets) is = omega arith
+foreign_short : (fields : Fields) → IsOf (row_of SUBMIT_SM_RESP) fields → length (foreign_in fields) ≤ MOST_BODY
+foreign_short (SubmitReply message_id) is = omega (arith, is.1)
+foreign_short (Bind b) is = omega arith
+foreign_short (BindReply system_id tlvs) is = omega arith
+foreign_short (Message m) is = omega arith
+foreign_short DeliverReply is = omega arith
+foreign_short Nothing is = omega arith
+foreign_short (Any octets) is = omega arith
 
 verdict_sound : (status : ℕ) (foreign : List ℕ) → length foreign ≤ MOST_BODY → IsSoundVerdict (verdict_of status foreign)
 verdict_sound status foreign short =
@@ -120,8 +109,14 @@ delivered_sound tag (Any octets) = tt
 
 sound_of : (c : Command) → IsOf (row_of c.id) c.fields → IsSound (heard_of c)
 sound_of c is =
-    chosen IsSound (c.id == SUBMIT_SM_RESP) _ _ (verdict_sound c.status (foreign_in c.fields) (foreign_short (row_of c.id) c.fields is))
-      (chosen IsSound (c.id == DELIVER_SM) _ _ (delivered_sound c.sequence c.fields) (told_sound c.id c.sequence c.status))
+    elim (cases_Bool (c.id == SUBMIT_SM_RESP)) [
+      | inl reply ↦
+          let id : c.id ≡ SUBMIT_SM_RESP = eqb-true c.id SUBMIT_SM_RESP reply in
+          let short = foreign_short c.fields (subst (λ (n : ℕ). IsOf (row_of n) c.fields) id is) in
+          rw reply (verdict_sound c.status (foreign_in c.fields) short)
+      | inr other ↦
+          rw other (chosen IsSound (c.id == DELIVER_SM) _ _ (delivered_sound c.sequence c.fields) (told_sound c.id c.sequence c.status))
+    ]
 
 -- ---- the grammar
 

@@ -17,7 +17,6 @@ use Rattle.config_groups.specs.Ranges.{IsLogin}
 use Rattle.route_rules.specs.declared.link_kind.LinkKind.TheVariants as kinds
 use Rattle.route_rules.specs.Carriage.{is_number, outgoing_len, units, fits, carries}
 use Rattle.concat_split.proofs.Headers.{length-header_of}
-use Rattle.smpp_wire.specs.declared.row.Row.TheVariants as row
 use Rattle.smpp_wire.specs.Command.{BindFields, MessageFields, Fields, Bind, BindReply, Message, SubmitReply, DeliverReply, Nothing, Any, Command}
 use Rattle.smpp_wire.specs.Grammar.{IsText, IsTime, ended, AreTlvs, IsBind, bind, IsMessage, message, IsOf, body, IsCommand, frame, frame_length, row_of}
 use Rattle.link_core.specs.declared.out.Out.{Out}
@@ -163,7 +162,7 @@ small : (id status tag : ℕ) (fields : Fields) → id < 2 ^ 32 → status < 2 ^
 small id status tag fields id_fits status_fits tag_fits is short =
     record { id = id_fits; status = status_fits; sequence = tag_fits; fields = is; len = omega (arith, short) }
 
-bound : (login : Fields) (tag : ℕ) → IsOf row.Bind login → tag < 2 ^ 32 → IsCommand (command_of login (out.Login tag))
+bound : (login : Fields) (tag : ℕ) → IsOf (row_of 9) login → tag < 2 ^ 32 → IsCommand (command_of login (out.Login tag))
 bound (Bind b) tag is held = small 9 0 tag (Bind b) (omega arith) (omega arith) held is (omega (arith, bind_short b is))
 bound (BindReply system_id tlvs) tag is held = absurd is
 bound (Message m) tag is held = absurd is
@@ -172,11 +171,14 @@ bound DeliverReply tag is held = absurd is
 bound Nothing tag is held = absurd is
 bound (Any octets) tag is held = absurd is
 
-pub sayable : (login : Fields) (sayings : Out) → IsOf row.Bind login → MaySay kinds.Smpp Hears sayings → out_tag sayings < 2 ^ 32 → IsCommand (command_of login sayings)
-sayable login (out.Login tag) is may held = bound login tag is held
-sayable login (out.Submit tag number sms now) is may held =
+pub submit_sayable : (tag number : ℕ) (sms : Sms) (now : ℕ) → IsSubmit kinds.Smpp number sms now → tag < 2 ^ 32 → IsCommand (command_with 4 0 tag (Message (submit_of number sms now)))
+submit_sayable tag number sms now may held =
     let good = submit_good number sms now may in
     small 4 0 tag (Message (submit_of number sms now)) (omega arith) (omega arith) held good (message_short (submit_of number sms now) good refl)
+
+pub sayable : (login : Fields) (sayings : Out) → IsOf (row_of 9) login → MaySay kinds.Smpp Hears sayings → out_tag sayings < 2 ^ 32 → IsCommand (command_of login sayings)
+sayable login (out.Login tag) is may held = bound login tag is held
+sayable login (out.Submit tag number sms now) is may held = submit_sayable tag number sms now may held
 sayable login (out.ReportReply tag) is may held = small 0x80000005 0 tag DeliverReply (omega arith) (omega arith) held tt (omega arith)
 sayable login (out.MessageReply tag true) is may held = small 0x80000005 0 tag DeliverReply (omega arith) (omega arith) held tt (omega arith)
 sayable login (out.MessageReply tag false) is may held = small 0x80000005 0x14 tag DeliverReply (omega arith) (omega arith) held tt (omega arith)
@@ -197,7 +199,7 @@ said_tag login (out.ByeReply tag) = refl
 said_tag login (out.Nack tag id) = refl
 
 -- what is said is one frame with its tag
-pub said_is_frame : (login : Fields) (sayings : Out) → IsOf row.Bind login → MaySay kinds.Smpp Hears sayings → out_tag sayings < 2 ^ 32 → IsFrameWith Hears (out_tag sayings) (frame (command_of login sayings))
+pub said_is_frame : (login : Fields) (sayings : Out) → IsOf (row_of 9) login → MaySay kinds.Smpp Hears sayings → out_tag sayings < 2 ^ 32 → IsFrameWith Hears (out_tag sayings) (frame (command_of login sayings))
 said_is_frame login sayings is may held =
     let c = command_of login sayings in
     record {

@@ -1,5 +1,5 @@
 -- A header is parted from its text exactly where one stands first that a message may have.
-use Rattle.std.proofs.Common.{◌≡◌, ℕ, ◌+◌, ◌≤◌, Bool, true, false, cond, List, [], ◌∷◌, ◌++◌, length, Result, Ok, Err, refl, sym, ap, ◌∙◌, arith, inl, inr, leb-true}
+use Rattle.std.proofs.Common.{◌≡◌, ℕ, ◌<◌, ◌≤◌, Bool, true, false, cond, List, [], ◌∷◌, ◌++◌, length, Result, Ok, Err, refl, sym, ap, ◌∙◌, arith, inl, inr, leb-true}
 use Rattle.std.specs.Prelude.{nat_le}
 use Rattle.std.proofs.lemmas.Bool.{cases_Bool, le-leb}
 use Rattle.exact_octets.specs.declared.read_fault.ReadFault.{ReadFault}
@@ -35,7 +35,7 @@ header_parted es rest short =
     let is : nat_le (length (header es)) MOST_HEADER ≡ true = le-leb (length (header es)) MOST_HEADER short in
     rw read (rw is refl)
 
-no_header_read : (octets : List ℕ) (read : Read) → Answers (λ es. length (elements es) + 1 ≤ 256) header octets read → ((es : List Element) (rest : List ℕ) → octets ≡ header es ++ rest → length (header es) ≤ MOST_HEADER → ⊥) → ([], octets) ≡ parted octets read
+no_header_read : (octets : List ℕ) (read : Read) → Answers (λ es. length (elements es) < 256) header octets read → ((es : List Element) (rest : List ℕ) → octets ≡ header es ++ rest → length (header es) ≤ MOST_HEADER → ⊥) → ([], octets) ≡ parted octets read
 no_header_read octets (Ok x) answers none =
     elim (cases_Bool (nat_le (length (header x.0)) MOST_HEADER)) [
       | inl is ↦ absurd (none x.0 x.1 answers.1 (leb-true (length (header x.0)) MOST_HEADER is))

@@ -26,9 +26,6 @@ const OCTETS: u8 = 2;
 /// Text in ISO-8859-1 (5.2.19).
 const LATIN_1: u8 = 3;
 
-/// What one side of a message is said by: the type of its number, and its text.
-type Side<'a> = (u8, &'a [u8]);
-
 /// Whether bits 5 to 2 of esm_class (5.2.12) say that this is a delivery receipt of the centre.
 fn is_report(esm_class: u8) -> bool
     ensures { result ≡ spec.is_report esm_class }
@@ -110,25 +107,32 @@ fn body_of(alloc: Global, data_coding: u8, octets: &[u8]) -> Result<Octets, Memo
     heard_body(alloc, coding_of(data_coding), text.as_slice())
 }
 
-fn address_of(alloc: Global, side: Side) -> Result<Address, Memory>
-    ensures { IfOk result (λ address. address ≡ address_of (spec.is_international side.0) side.1.now) }
+fn address_of(alloc: Global, ton: u8, text: &[u8]) -> Result<Address, Memory>
+    ensures { IfOk result (λ address. address ≡ address_of (spec.is_international ton) text.now) }
 {
-    heard_address(alloc, side.0 == INTERNATIONAL, side.1)
+    heard_address(alloc, ton == INTERNATIONAL, text)
 }
 
-fn parties_of(alloc: Global, from: Side, to: Side) -> Result<(Address, Address), Memory>
-    ensures { IfOk result (λ parties. parties ≡ (address_of (spec.is_international from.0) from.1.now, address_of (spec.is_international to.0) to.1.now)) }
+/// From whom a message comes, and to whom: of each the type of its number and its text.
+fn parties_of(
+    alloc: Global,
+    source_ton: u8,
+    source: &[u8],
+    destination_ton: u8,
+    destination: &[u8],
+) -> Result<(Address, Address), Memory>
+    ensures { IfOk result (λ parties. parties ≡ (address_of (spec.is_international source_ton) source.now, address_of (spec.is_international destination_ton) destination.now)) }
 {
-    let sender = address_of(alloc, from)?;
-    let receiver = address_of(alloc, to)?;
+    let sender = address_of(alloc, source_ton, source)?;
+    let receiver = address_of(alloc, destination_ton, destination)?;
     Ok((sender, receiver))
 }
 
-fn contents_of(alloc: Global, data_coding: u8, parts: (&[u8], &[u8])) -> Result<(Octets, Octets), Memory>
-    ensures { IfOk result (λ contents. contents ≡ (parts.0.now, body_of (spec.coding_of data_coding) (spec.text_of data_coding parts.1.now))) }
+fn contents_of(alloc: Global, data_coding: u8, header: &[u8], text: &[u8]) -> Result<(Octets, Octets), Memory>
+    ensures { IfOk result (λ contents. contents ≡ (header.now, body_of (spec.coding_of data_coding) (spec.text_of data_coding text.now))) }
 {
-    let header = Octets::from_slice(alloc, parts.0)?;
-    let body = body_of(alloc, data_coding, parts.1)?;
+    let header = Octets::from_slice(alloc, header)?;
+    let body = body_of(alloc, data_coding, text)?;
     Ok((header, body))
 }
 
@@ -150,9 +154,9 @@ pub(crate) fn delivered(alloc: Global, tag: u32, body: &Body) -> Result<Heard, M
             short_message,
             ..
         } if !is_report(esm_class) => {
-            let parts = header_and_text(esm_class, short_message);
-            let parties = parties_of(alloc, (source_ton, source), (destination_ton, destination))?;
-            let (header, body) = contents_of(alloc, data_coding, parts)?;
+            let (header, text) = header_and_text(esm_class, short_message);
+            let parties = parties_of(alloc, source_ton, source, destination_ton, destination)?;
+            let (header, body) = contents_of(alloc, data_coding, header, text)?;
             let (coding, class) = (coding_of(data_coding), read_dcs(data_coding).1);
             let sms = arrival(alloc, parties, coding, class, header, body);
             Ok(Heard::Message { tag, sms })

@@ -127,7 +127,7 @@ impl LinkCore for SmppCore {
     }
 
     fn write(&self, alloc: Global, out: &Out) -> Result<Octets, Memory> {
-        write_out(alloc, self.bind(), out)
+        write_out(alloc, &self.bind(), out)
     }
 
     fn next_tag(&self, last: Option<u32>) -> u32 {

@@ -113,5 +113,5 @@ pub(crate) fn submit_frame(
     let (esm_class, text) = text_of(alloc, number, sms)?;
     let period = validity_of(alloc, sms.time, sms.validity, now)?;
     let body = submit_of(sms, esm_class, text.as_slice(), period.as_slice());
-    frame_of(alloc, SUBMIT_SM, OK, tag, body)
+    frame_of(alloc, SUBMIT_SM, OK, tag, &body)
 }
