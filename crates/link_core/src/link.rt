@@ -44,7 +44,10 @@ pub trait LinkCore {
     /// # Errors
     /// `Memory`.
     fn read(&self, alloc: Global, octets: &[u8]) -> Result<Framed, Memory>
-        ensures { IfOk result (IsReadAs hears refuses octets.now) };
+        ensures read { IfOk result (IsReadAs hears refuses octets.now) }
+
+        // What the frames of the protocol keep to.
+        ensures grammar { IsGrammar hears holds most };
 
     /// The frame that says something. A message has to be one that the protocol carries, and asked for at `now` or earlier; an answer to
     /// a question, an end or a strange frame one to what the protocol can hear.
@@ -61,7 +64,10 @@ pub trait LinkCore {
 
     /// The tag for the next thing that is said unasked, behind the last one, if there was one.
     fn next_tag(&self, last: Option<u32>) -> u32
-        ensures { result ≡ next_tag last };
+        ensures value { result ≡ next_tag last }
+
+        // What its tags keep to.
+        ensures turns { AreTags next_tag tags holds };
 
     /// How many tags there are for what is said unasked.
     fn tags(&self) -> u32
@@ -70,10 +76,4 @@ pub trait LinkCore {
     /// Which protocol it is.
     fn kind(&self) -> LinkKind
         ensures { result ≡ kind };
-
-    /// What the frames of the protocol keep to.
-    ghost grammar: { IsGrammar hears holds most };
-
-    /// What its tags keep to.
-    ghost turns: { AreTags next_tag tags holds };
 }

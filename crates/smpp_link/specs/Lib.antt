@@ -2,4 +2,3 @@ pub mod Delivery
 pub mod Hearing
 pub mod Saying
 pub mod Tags
-pub mod Laws

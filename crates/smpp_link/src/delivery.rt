@@ -49,7 +49,10 @@ fn header_len(octets: &[u8]) -> usize
         return 0;
     };
     let len = usize::from(*count) + 1;
-    if len > usize::from(MOST_HEADER) || len > octets.len() {
+    if len > usize::from(MOST_HEADER) {
+        return 0;
+    }
+    if len > octets.len() {
         return 0;
     }
     if read_udh(&octets[..len]).is_err() {

@@ -5,8 +5,8 @@ ghost use Rattle.route_rules.specs.declared.link_kind.LinkKind.TheVariants as ki
 ghost use Rattle.smpp_wire.specs.Command.{Bind, fields_of};
 ghost use Rattle.smpp_wire.specs.Grammar.{IsBind};
 ghost use Rattle.config_groups.specs.Ranges.{IsLogin};
+ghost use Rattle.link_core.specs.Grammar.{IsReadAs};
 ghost use Rattle.smpp_link.specs.Hearing.{Hears, Refuses};
-ghost use Rattle.smpp_link.specs.Laws as laws;
 ghost use Rattle.smpp_link.specs.Saying as saying;
 ghost use Rattle.smpp_link.specs.Tags as numbers;
 
@@ -94,6 +94,31 @@ impl SmppCore {
     }
 }
 
+/// What stands at the front of octets.
+fn read_as(alloc: Global, octets: &[u8]) -> Result<Framed, Memory>
+    ensures { IfOk result (IsReadAs Hears Refuses octets.now) }
+{
+    Ok(match read_frame(octets) {
+        Frame::Whole { pdu, len } => Framed::Whole {
+            heard: heard_of(alloc, &pdu)?,
+            len,
+        },
+        Frame::NeedMore => Framed::NeedMore,
+        Frame::Bad { at, code } => Framed::Bad { at, code },
+    })
+}
+
+/// The tag behind another, or the first one.
+#[tactic(auto, unfolding(crate::specs::Tags::next_tag))]
+fn tag_behind(last: Option<u32>) -> u32
+    ensures { result ≡ numbers.next_tag last }
+{
+    match last {
+        Some(tag) if tag < LAST_TAG => tag + 1,
+        _ => 1,
+    }
+}
+
 impl LinkCore for SmppCore {
     ghost kind = { kinds.Smpp };
 
@@ -111,19 +136,8 @@ impl LinkCore for SmppCore {
 
     ghost tags = { numbers.last_tag };
 
-    ghost grammar = { laws.grammar };
-
-    ghost turns = { laws.turns };
-
     fn read(&self, alloc: Global, octets: &[u8]) -> Result<Framed, Memory> {
-        Ok(match read_frame(octets) {
-            Frame::Whole { pdu, len } => Framed::Whole {
-                heard: heard_of(alloc, &pdu)?,
-                len,
-            },
-            Frame::NeedMore => Framed::NeedMore,
-            Frame::Bad { at, code } => Framed::Bad { at, code },
-        })
+        read_as(alloc, octets)
     }
 
     fn write(&self, alloc: Global, out: &Out) -> Result<Octets, Memory> {
@@ -131,10 +145,7 @@ impl LinkCore for SmppCore {
     }
 
     fn next_tag(&self, last: Option<u32>) -> u32 {
-        match last {
-            Some(tag) if tag < LAST_TAG => tag + 1,
-            _ => 1,
-        }
+        tag_behind(last)
     }
 
     fn tags(&self) -> u32 {
