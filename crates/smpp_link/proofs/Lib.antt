@@ -1,6 +1,0 @@
-pub mod Turns
-pub mod Latin
-pub mod Headers
-pub mod Commands
-pub mod Frames
-pub mod Reading

@@ -1,4 +1,0 @@
-pub mod Delivery
-pub mod Hearing
-pub mod Saying
-pub mod Tags
