@@ -3,6 +3,7 @@ pub mod Committing
 pub mod Composing
 pub mod Counting
 pub mod Handed
+pub mod Keeping
 pub mod Loading
 pub mod Opening
 pub mod Passing

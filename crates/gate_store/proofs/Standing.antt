@@ -27,7 +27,7 @@ may_stand_for birth area entries None areas held = stands_for_held birth area en
 may_stand_for birth area entries (Some kept) areas held = ⊎_elim
     (λ without. inl (stands_for_held birth area entries areas without))
     (λ with_it. inr (stands_for_held birth area (entries ++ kept ∷ []) areas
-        (subst (λ there. stands areas ≡ born birth area there) (sym (payloads_more entries kept)) with_it))) held
+    (subst (λ there. stands areas ≡ born birth area there) (sym (payloads_more entries kept)) with_it))) held
 
 module _ {D : Type 0} (tells : Bool) (story : D → Story) where
   -- whatever a stop now leaves of a store stands for its entries, or for these and the unsure one
