@@ -1,9 +1,10 @@
 #!/bin/sh
 # Times the commits of a store: COUNT messages in one process (`boxes door`, one connection, so one commit a message), beside what the same
-# disk allows for two writes with a sync behind each and nothing else (bench/commit.c). The two take turns, RUNS times, and the medians are
-# compared: the ratio is what of the disk's pace the store reaches.
+# disk allows for two writes with a sync behind each and nothing else (bench/commit.c). What a request costs beside its commit is known from
+# as many requests in which all is the same but that no link may carry the message, so that nothing is committed. The three take turns, RUNS
+# times, and the medians are compared: the ratios are what of the disk's pace a commit reaches, and a whole request.
 #
-#   bench/commit.sh [COUNT] [RUNS]      200 and 5 where they aren't given
+#   bench/commit.sh [COUNT] [RUNS]      200 and 41 where they aren't given (a disk's pace changes from one second to the next)
 #
 # TMPDIR names the disk that is measured. Without a C compiler the script says so and does nothing.
 set -eu
@@ -11,7 +12,7 @@ set -eu
 here=$(CDPATH= cd -- "$(dirname -- "$0")/.." && pwd)
 program=$here/crates/boxes/out/boxes
 count=${1:-200}
-runs=${2:-5}
+runs=${2:-41}
 unit=71 # octets that the message of a request here adds to an area
 
 command -v cc > /dev/null 2>&1 || { echo "commit.sh: skipped (no C compiler)"; exit 0; }
@@ -20,6 +21,7 @@ room=$(mktemp -d)
 trap 'rm -rf "$room"' EXIT
 cd "$room"
 cp "$here/examples/gate.conf" .
+sed 's/^smsc = smpp$/&\ndenied-prefix = 0123456/' gate.conf > refusing.conf
 cc -O2 -o commit "$here/bench/commit.c"
 
 # (the script `boxes` builds the program where it isn't built)
@@ -42,17 +44,35 @@ store_run() {
     opened=$(now)
     "$program" door gate.conf < requests.http > said
     end=$(now)
-    heard=$(grep -c '^HTTP/1.1 202 ' said || true)
+    heard=$(grep -o 'HTTP/1.1 202 ' said | wc -l)
     [ "$heard" -eq "$count" ] || { echo "commit.sh: $heard of $count were answered 202" >&2; exit 1; }
     echo $((((end - opened) - (opened - start)) / 1000 / count)) >> store.times
+}
+
+# The same of requests that are refused behind all else, in microseconds a request.
+refused_run() {
+    rm -f gate.store.*
+    "$program" door gate.conf < "$here/examples/hello.http" > /dev/null
+    start=$(now)
+    "$program" door refusing.conf < /dev/null > /dev/null
+    opened=$(now)
+    "$program" door refusing.conf < requests.http > said
+    end=$(now)
+    refused=$(grep -o 'HTTP/1.1 403 ' said | wc -l)
+    [ "$refused" -eq "$count" ] || { echo "commit.sh: $refused of $count were answered 403" >&2; exit 1; }
+    echo $((((end - opened) - (opened - start)) / 1000 / count)) >> refused.times
 }
 
 i=0
 while [ "$i" -lt "$runs" ]; do
     store_run
+    refused_run
     ./commit disk.bin "$count" "$unit" >> disk.times
     i=$((i + 1))
 done
 store=$(median store.times)
+refused=$(median refused.times)
 disk=$(median disk.times)
-echo "a commit of the store: $store microseconds; two writes with two syncs: $disk microseconds; the store reaches $(awk -v a="$disk" -v b="$store" 'BEGIN { printf "%.2f", a / b }') of the disk's pace (medians of $runs runs of $count)"
+ratio() { awk -v a="$1" -v b="$2" 'BEGIN { printf "%.2f", a / b }'; }
+echo "a request with its commit: $store microseconds; without it: $refused; two writes with two syncs: $disk (medians of $runs runs of $count)"
+echo "a commit reaches $(ratio "$disk" $((store - refused))) of the disk's pace, a whole request $(ratio "$disk" "$store")"

@@ -10,8 +10,7 @@ set -eu
 
 here=$(CDPATH= cd -- "$(dirname -- "$0")/.." && pwd)
 program=$here/crates/boxes/out/boxes
-calls=write,pwrite64,fsync,fdatasync
-most=200 # a run has fewer calls than that, or the script itself is wrong
+most=200 # a run has fewer calls of a name than that, or the script itself is wrong
 
 command -v strace > /dev/null 2>&1 || { echo "stops.sh: skipped (no strace)"; exit 0; }
 
@@ -39,11 +38,12 @@ accepted() {
     awk '$1 == "accepted" { print $2 }' shown
 }
 
-# Runs `door` under strace with a fault put into the calls; the number of 202s that were heard is left in `heard`.
+# Runs `door` under strace with a fault put into a call; the number of 202s that were heard is left in `heard`. (An answer's body has no
+# line feed behind it, so the next answer begins in its line.)
 run_with() {
     status=0
-    strace -f -o traced -e trace="$calls" -e inject="$1" "$program" door gate.conf < three.http > said 2> errors || status=$?
-    heard=$(grep -c '^HTTP/1.1 202 ' said || true)
+    strace -f -o traced -e trace="${1%%:*}" -e inject="$1" "$program" door gate.conf < three.http > said 2> errors || status=$?
+    heard=$(grep -o 'HTTP/1.1 202 ' said | wc -l)
 }
 
 # The store from which each run begins.
@@ -61,16 +61,17 @@ compare() {
     [ "$now" -eq "$least" ] || more=$((more + 1))
 }
 
-# Each call in turn, until a run has fewer calls.
+# Each call of a name in turn, until a run has fewer. (strace counts the calls of each name by themselves.)
 each_call() {
-    name=$1
+    name="$1, $3"
     kind=$2
-    store=$3
+    call=$3
+    store=$4
     number=1
     more=0
     while :; do
         fresh "$store"
-        run_with "$calls:$kind:when=$number"
+        run_with "$call:$kind:when=$number"
         case $kind in
             signal=KILL) [ "$status" -ne 0 ] || break ;;
             *) grep -q INJECTED traced || break ;;
@@ -85,6 +86,7 @@ each_call() {
         [ "$number" -lt "$most" ] || wrong "$name, $kind: more than $most calls"
     done
     [ "$number" -gt 1 ] || wrong "$name, $kind: no call was met"
+    total=$((total + number - 1))
     echo "$name, $kind: $((number - 1)) calls in turn, no 202 lost, one message more in $more"
 }
 
@@ -94,9 +96,21 @@ fresh none
 mkdir one
 mv gate.store.* one/
 
-for kind in signal=KILL error=EIO error=ENOSPC; do
-    before=0
-    each_call "an empty store" "$kind" none
-    before=1
-    each_call "a store of one message" "$kind" one
+# The program writes by `write` and syncs by `fsync`; a run that makes a call of another name for either fails here.
+for other in pwrite64 writev fdatasync sync_file_range; do
+    fresh none
+    run_with "$other:signal=KILL:when=1"
+    [ "$status" -eq 0 ] || wrong "a run makes the call $other, which isn't tried"
+    [ "$heard" -eq 3 ] || wrong "$heard of 3 requests were answered 202 where nothing was put in"
 done
+
+total=0
+for kind in signal=KILL error=EIO error=ENOSPC; do
+    for call in write fsync; do
+        before=0
+        each_call "an empty store" "$kind" "$call" none
+        before=1
+        each_call "a store of one message" "$kind" "$call" one
+    done
+done
+echo "$total faults in turn"

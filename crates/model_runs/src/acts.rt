@@ -14,7 +14,7 @@ use line_cases::{cut_at, cut_item, numbers_of, put_named};
 use std::alloc::Global;
 
 /// The first time that no clock reads.
-const END_OF_TIME: u64 = 1 << 37;
+pub(crate) const END_OF_TIME: u64 = 1 << 37;
 
 /// Puts the counts last that aren't always 0.
 pub(crate) fn put_totals(report: &mut Octets, totals: Totals) -> Result<(), Memory> {
@@ -28,7 +28,7 @@ pub(crate) fn put_totals(report: &mut Octets, totals: Totals) -> Result<(), Memo
     put_named(report, b" entries ", totals.entries)
 }
 
-fn put_reply(report: &mut Octets, reply: Reply) -> Result<(), Memory> {
+pub(crate) fn put_reply(report: &mut Octets, reply: Reply) -> Result<(), Memory> {
     match reply {
         Reply::Accepted {
             first,
@@ -45,7 +45,7 @@ fn put_reply(report: &mut Octets, reply: Reply) -> Result<(), Memory> {
     }
 }
 
-fn put_refusal(report: &mut Octets, refusal: Refusal) -> Result<(), Memory> {
+pub(crate) fn put_refusal(report: &mut Octets, refusal: Refusal) -> Result<(), Memory> {
     match refusal {
         Refusal::NoRoute { part } => put_named(report, b"no route for part ", u64::from(part)),
         Refusal::Full { held, limit } => {

@@ -5,12 +5,14 @@
 //! `accept TIME COUNT DEFERRED VALIDITY`, and `adrift` the same to a receiver that no link takes; `acked MESSAGE TIME`, `rejected MESSAGE
 //! TIME`, `expired MESSAGE TIME`, `reported TIME`, `arrived`, `answered TIME COUNT ARRIVAL ..`, `called JOB`: entries that are recorded.
 //! `next LINK NOW`, `take LINK NOW`, `back MESSAGE`, `totals`. Where `load` stands in front of the line, a loader is handed the entries.
+//! Where `store` does, the acts are those of a store in memory: behind the head stand the numbers of the disk calls that fail.
 #![tactic(auto)]
 
 mod acts;
 mod entries;
 mod loads;
 mod rules;
+mod stores;
 
 use acts::put_gate;
 use kn_base::{Memory, Octets};
@@ -18,6 +20,7 @@ use line_cases::{Cases, cut_at, run_lines};
 use loads::put_load;
 use std::alloc::Global;
 use std::process::ExitCode;
+use stores::put_store;
 
 /// The cases of gates.
 struct GateCases;
@@ -28,6 +31,8 @@ impl Cases for GateCases {
         let (kind, text) = cut_at(line, b' ');
         if kind == b"load".as_slice() {
             put_load(alloc, text, report)?;
+        } else if kind == b"store".as_slice() {
+            put_store(alloc, text, report)?;
         } else {
             put_gate(alloc, line, report)?;
         }

@@ -1,6 +1,8 @@
 //! Rules of links without lists.
 
-ghost use Rattle.std.specs.Prelude.{◌≤◌, length, IfOk};
+ghost use Rattle.std.specs.Prelude.{◌≡◌, ◌≤◌, [], length, All, IfOk};
+ghost use Rattle.gate_entries.specs.Entry.{IsText};
+ghost use Rattle.gate_model.specs.Gate.{HaveIds};
 
 use kn_base::{Items, Memory, Octets};
 use route_rules::{LinkKind, LinkRule, Rules};
@@ -9,7 +11,9 @@ use std::alloc::Global;
 /// The most links of a case.
 const MOST_LINKS: usize = 8;
 
-fn link_rule(alloc: Global) -> LinkRule {
+fn link_rule(alloc: Global) -> LinkRule
+    ensures { result.id ≡ [] }
+{
     LinkRule {
         id: Octets::new(alloc),
         kind: LinkKind::Smpp,
@@ -24,7 +28,8 @@ fn link_rule(alloc: Global) -> LinkRule {
 
 /// So many links, and no more than a case has.
 fn links_of(alloc: Global, count: u64) -> Result<Items<LinkRule>, Memory>
-    ensures { IfOk result (λ links. length links ≤ 8) }
+    ensures few { IfOk result (λ links. length links ≤ 8) }
+    ensures ids { IfOk result (λ links. All (λ rule. IsText rule.id) links) }
 {
     let mut links = Items::new(alloc);
     for _ in 0..count {
@@ -38,7 +43,8 @@ fn links_of(alloc: Global, count: u64) -> Result<Items<LinkRule>, Memory>
 
 /// Rules of so many links, and with these limits.
 pub(crate) fn rules_of(alloc: Global, links: u64, limits: (u64, u64)) -> Result<Rules, Memory>
-    ensures { IfOk result (λ rules. length rules.links ≤ 8) }
+    ensures few { IfOk result (λ rules. length rules.links ≤ 8) }
+    ensures ids { IfOk result HaveIds }
 {
     let links = links_of(alloc, links)?;
     let (outgoing, incoming) = limits;
