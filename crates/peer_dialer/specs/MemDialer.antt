@@ -1,6 +1,7 @@
 -- What a dialer in memory tells, and what its dials are to answer.
 use Rattle.std.specs.Prelude.{◌≡◌, ◌≢◌, ℕ, List, [], ◌∷◌, length, Option, Some}
 use Rattle.kn_base.specs.Calls.{Calls, IsFailing}
+use Rattle.kn_base.specs.Count.{next_count}
 use Rattle.kn_base.specs.declared.meter.Meter.{Ghosts}
 use Rattle.peer_dialer.specs.Dealings.{Dealings}
 use Rattle.peer_dialer.specs.Told.{dials_in, pasts_in}
@@ -36,3 +37,9 @@ abbrev pub AnswersDial : {P : Type 0} → Calls → Dialed P → List P → List
 AnswersDial calls (dial_is.Peer peer) old new = (¬ IsFailing calls) × (old ≡ peer ∷ new)
 AnswersDial calls dial_is.Failed old new = (old ≢ []) × (new ≡ old)
 AnswersDial calls dial_is.Gone old new = (old ≡ []) × (new ≡ [])
+
+-- how many dials failed, after one with this answer
+abbrev pub faults_after : {P : Type 0} → Dialed P → ℕ → ℕ
+faults_after (dial_is.Peer peer) faults = faults
+faults_after dial_is.Failed faults = next_count faults
+faults_after dial_is.Gone faults = faults

@@ -3,7 +3,6 @@
 ghost use Rattle.std.specs.Prelude.{◌≡◌, length, All, None};
 ghost use Rattle.std.proofs.Props.{props};
 ghost use Rattle.kn_base.specs.Calls.{one_more};
-ghost use Rattle.kn_base.specs.Count.{next_count};
 ghost use Rattle.kn_base.specs.Course.{IsFresh};
 ghost use Rattle.peer_dialer.specs.Dealings.{Dials, Parts, Adds, Stays, asked_for};
 ghost use Rattle.peer_dialer.specs.Told.{dials_in, pasts_in};
@@ -69,9 +68,12 @@ impl<P: Peer + Drop> MemDialer<P> {
         ensures { option_map (λ pasts. pasts.now) result ≡ (mem_dealings self.now).pasts }
     {
         match &self.told {
-            Some(Told {
-                pasts: Some(pasts), ..
-            }) => Some(pasts.as_slice()),
+            Some(
+                Told {
+                    pasts: Some(pasts),
+                    ..
+                },
+            ) => Some(pasts.as_slice()),
             _ => None,
         }
     }
@@ -112,7 +114,7 @@ impl<P: Peer + Drop> Dialer for MemDialer<P> {
     type P = P;
 
     ghost use Rattle.std.specs.Prelude.{IfSome, None};
-    ghost use Rattle.peer_dialer.specs.MemDialer.{mem_dealings, peers_of, dials_of, AnswersDial};
+    ghost use Rattle.peer_dialer.specs.MemDialer.{mem_dealings, peers_of, dials_of, AnswersDial, faults_after};
 
     ghost dealings = { mem_dealings };
 
@@ -121,6 +123,7 @@ impl<P: Peer + Drop> Dialer for MemDialer<P> {
         ensures dials { Dials P.course host.now port result (mem_dealings self.old) (mem_dealings self.new) }
         ensures answers { AnswersDial (dials_of self.old) result (peers_of self.old) (peers_of self.new) }
         ensures counted { dials_of self.new ≡ one_more (dials_of self.old) }
+        ensures faults { (mem_dealings self.new).faults ≡ faults_after result (mem_dealings self.old).faults }
     {
         let fails = self.calls.next_fails();
         let prepared = prepare(self.alloc, &mut self.told, host, port, self.given);

@@ -17,19 +17,24 @@ pub struct Told {
     pub(crate) pasts: Option<Vec<Past>>,
 }
 
-/// Puts what was asked for last. After `Memory` nothing has changed.
-fn push_asked(
-    alloc: Global,
-    dials: &mut Vec<Asked>,
-    host: &[u8],
-    port: u16,
-) -> Result<(), Memory>
-    ensures ok { OnOk result (dials.new.items ≡ dials.old.items ++ asked_for host.now port ∷ []) }
-    ensures err { OnErr result (dials.new.items ≡ dials.old.items) }
+/// Puts what was asked for last.
+fn push_asked(alloc: Global, dials: &mut Vec<Asked>, host: &[u8], port: u16) -> Result<(), Memory>
+    ensures { OnOk result (dials.new.items ≡ dials.old.items ++ asked_for host.now port ∷ []) }
 {
     let host = Octets::from_slice(alloc, host)?;
     dials.push(Asked { host, port })?;
     Ok(())
+}
+
+/// Keeps what was asked for, as long as anything is kept.
+fn push_dial(alloc: Global, told: &mut Option<Told>, host: &[u8], port: u16) -> Result<(), Memory>
+    ensures dials { OnOk result (Adds (asked_for host.now port) (dials_in told.old) (dials_in told.new)) }
+    ensures pasts { OnOk result (pasts_in told.new ≡ pasts_in told.old) }
+{
+    match told {
+        Some(kept) => push_asked(alloc, &mut kept.dials, host, port),
+        None => Ok(()),
+    }
 }
 
 /// Keeps what was asked for. After `Memory` nothing is told any more.
@@ -42,16 +47,11 @@ pub(crate) fn keep_dial(
     ensures dials { Adds (asked_for host.now port) (dials_in told.old) (dials_in told.new) }
     ensures pasts { Stays (pasts_in told.old) (pasts_in told.new) }
 {
-    let Some(kept) = told else {
-        return Ok(());
-    };
-    match push_asked(alloc, &mut kept.dials, host, port) {
-        Ok(()) => Ok(()),
-        Err(Memory) => {
-            *told = None;
-            Err(Memory)
-        }
+    let pushed = push_dial(alloc, told, host, port);
+    if pushed.is_err() {
+        *told = None;
     }
+    pushed
 }
 
 /// Makes room for the pasts of so many peers more.
@@ -70,9 +70,12 @@ pub(crate) fn make_room(told: &mut Option<Told>, peers: usize) -> Result<(), Mem
 /// How many pasts are kept.
 pub(crate) fn count_pasts(told: &Option<Told>) -> usize {
     match told {
-        Some(Told {
-            pasts: Some(pasts), ..
-        }) => pasts.len(),
+        Some(
+            Told {
+                pasts: Some(pasts),
+                ..
+            },
+        ) => pasts.len(),
         _ => 0,
     }
 }
