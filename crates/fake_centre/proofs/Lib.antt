@@ -1,3 +1,3 @@
-pub mod Saying
-pub mod Delivering
 pub mod CentrePeers
+pub mod Commands
+pub mod Deliveries

@@ -70,7 +70,7 @@ fn short_front(octets: &[u8]) -> &[u8]
 }
 
 /// Puts a deliver_sm last.
-#[tactic(auto, using(crate::proofs::Delivering::delivery_good))]
+#[tactic(auto, using(crate::proofs::Deliveries::delivery_good))]
 fn put_delivery(
     into: &mut Octets,
     sequence: u32,

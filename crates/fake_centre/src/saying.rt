@@ -9,7 +9,7 @@ use kn_base::{Memory, Octets};
 use smpp_wire::{Body, Pdu, write_pdu};
 
 /// Puts the frame of a command last.
-#[tactic(auto, using(crate::proofs::Saying::frames_more))]
+#[tactic(auto, using(crate::proofs::Commands::frames_more))]
 pub(crate) fn put_command(
     into: &mut Octets,
     id: u32,
@@ -32,7 +32,7 @@ pub(crate) fn put_command(
 }
 
 /// Puts the frame of a command without a body last.
-#[tactic(auto, using(crate::proofs::Saying::plain_good))]
+#[tactic(auto, using(crate::proofs::Commands::plain_good))]
 pub(crate) fn put_plain(
     into: &mut Octets,
     id: u32,

@@ -4,7 +4,7 @@ use Rattle.std.proofs.lemmas.List.Elements.{All-nil}
 use Rattle.smpp_wire.specs.Command.{MessageFields, Message}
 use Rattle.smpp_wire.specs.Grammar.{IsText, IsMessage, message, IsCommand}
 use Rattle.fake_centre.specs.Saying.{command_with, delivery_of}
-use Rattle.fake_centre.proofs.Saying.{small}
+use Rattle.fake_centre.proofs.Commands.{small}
 
 delivery_is : (source_ton source_npi : ℕ) (source : List ℕ) (destination_ton destination_npi : ℕ) (destination : List ℕ) (esm_class data_coding : ℕ) (octets : List ℕ)
     → IsText 21 source → IsText 21 destination → length octets ≤ 254 → IsMessage (delivery_of source_ton source_npi source destination_ton destination_npi destination esm_class data_coding octets)
