@@ -10,6 +10,7 @@ use sms_lines::put_hex;
 use std::alloc::Global;
 
 /// Each word is octets that the centre hears.
+#[derive(Drop)]
 struct Hearing {
     centre: Centre,
 }
@@ -33,6 +34,7 @@ pub fn put_heard(alloc: Global, text: &[u8], report: &mut Octets) -> Result<(), 
 }
 
 /// `take`, else octets that are given.
+#[derive(Drop)]
 struct Talking<P> {
     peer: P,
 }

@@ -42,6 +42,7 @@ fn put_call<P: Peer>(peer: &mut P, report: &mut Octets) -> Result<(), Memory> {
 }
 
 /// Dials, hears and says once, and closes the connection.
+#[derive(Drop)]
 struct Calls<D> {
     dialer: D,
 }

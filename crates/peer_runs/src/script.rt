@@ -5,7 +5,7 @@ use kn_base::{Memory, Octets};
 use line_cases::{both, cut_at, cut_item, number, octets_of, put_last, words_of};
 use link_core::{arrival, heard_address, heard_body};
 use sms_lines::coding_of;
-use sms_record::Sms;
+use sms_record::{Address, Sms};
 use std::alloc::Global;
 
 /// `good:ID`, `refuse:STATUS`, `silent`.
@@ -44,6 +44,11 @@ fn reports_of(alloc: Global, text: &[u8]) -> Result<Vec<(u32, Octets, Octets)>, 
     Ok(reports)
 }
 
+/// A number with or without a `+`, or a text.
+fn address_of(alloc: Global, text: &[u8]) -> Result<Address, Memory> {
+    heard_address(alloc, false, octets_of(alloc, text)?.as_slice())
+}
+
 /// `SENDER:RECEIVER:CODING:HEADER:BODY`.
 fn message_of(alloc: Global, word: &[u8]) -> Result<Sms, Memory> {
     let (sender, text) = cut_at(word, b':');
@@ -51,10 +56,7 @@ fn message_of(alloc: Global, word: &[u8]) -> Result<Sms, Memory> {
     let (coding, text) = cut_at(text, b':');
     let (header, body) = cut_at(text, b':');
     let coding = coding_of(coding);
-    let parties = both(
-        heard_address(alloc, false, sender),
-        heard_address(alloc, false, receiver),
-    )?;
+    let parties = both(address_of(alloc, sender), address_of(alloc, receiver))?;
     let (header, body) = both(octets_of(alloc, header), octets_of(alloc, body))?;
     let body = heard_body(alloc, coding, body.as_slice())?;
     Ok(arrival(alloc, parties, coding, None, header, body))
