@@ -26,5 +26,5 @@ delivery_good source_ton source_npi source destination_ton destination_npi desti
     let a = from.1 in
     let b = to.1 in
     small 5 0 sequence (Message (delivery_of source_ton source_npi source destination_ton destination_npi destination esm_class data_coding octets)) (omega arith) (omega arith) fits
-      (delivery_is source_ton source_npi source destination_ton destination_npi destination esm_class data_coding octets from to short)
-      (simp length-append (omega (arith, a, b, short)))
+    (delivery_is source_ton source_npi source destination_ton destination_npi destination esm_class data_coding octets from to short)
+    (simp length-append (omega (arith, a, b, short)))

@@ -6,9 +6,7 @@ ghost use Rattle.kn_base.specs.declared.piece.Piece.TheVariants as piece_is;
 ghost use Rattle.fake_centre.specs.CentrePeer.{peer_course, counts_of, Waits, GivesAll};
 
 use crate::Centre;
-use kn_base::{
-    Give, Items, Memory, Meter, Octets, Past, Peer, Piece, Sink, Source, Take, raised,
-};
+use kn_base::{Give, Items, Memory, Meter, Octets, Past, Peer, Piece, Sink, Source, Take, raised};
 use std::alloc::Global;
 
 /// A peer whose other side is a centre. It tells its talk.

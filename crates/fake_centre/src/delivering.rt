@@ -9,10 +9,10 @@ use crate::saying::{put_command, text_front};
 use crate::status::OK;
 use kn_base::{Memory, Octets};
 use link_core::dcs_of;
-use sms_record::{Address, Sms};
 use smpp_wire::Body;
 use smpp_wire::command::DELIVER_SM;
 use smpp_wire::limits::MOST_SHORT_MESSAGE;
+use sms_record::{Address, Sms};
 use std::alloc::Global;
 
 /// The most octets of an address (SMPP 3.4, 4.6.1), without the 00 behind it.
@@ -114,12 +114,7 @@ fn octets_of(alloc: Global, sms: &Sms) -> Result<Octets, Memory> {
 }
 
 /// Puts a message of the script last.
-fn put_message(
-    alloc: Global,
-    into: &mut Octets,
-    sequence: u32,
-    sms: &Sms,
-) -> Result<(), Memory>
+fn put_message(alloc: Global, into: &mut Octets, sequence: u32, sms: &Sms) -> Result<(), Memory>
     requires frames { AreFrames into.old }
     ensures frames { OnOk result (AreFrames into.new) }
 {

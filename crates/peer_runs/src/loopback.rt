@@ -31,7 +31,11 @@ fn put_talk<P: Peer, S: Read + Write + Drop>(
     report: &mut Octets,
 ) -> Result<(), Memory> {
     let sent = other.write(b"hello");
-    report.extend_from_slice(if sent.is_ok() { b"sent, " } else { b"not sent, " })?;
+    report.extend_from_slice(if sent.is_ok() {
+        b"sent, "
+    } else {
+        b"not sent, "
+    })?;
     put_take(peer, report)?;
     report.extend_from_slice(b", ")?;
     put_take(peer, report)?;
