@@ -1,10 +1,12 @@
 -- What a centre says are commands of SMPP.
-use Rattle.std.proofs.Common.{◌≡◌, ◌≢◌, ℕ, ◌+◌, ◌<◌, ◌≤◌, ◌^◌, List, [], ◌∷◌, ◌++◌, length, All, refl, sym, ap, ◌∙◌, append_assoc, arith, length-append, inl}
+use Rattle.std.proofs.Common.{◌≡◌, ℕ, ◌<◌, ◌≤◌, ◌^◌, List, [], ◌∷◌, ◌++◌, length, sym, ap, ◌∙◌, append_assoc, arith, length-append, length-take}
 use Rattle.std.specs.List.{flat_map, AllByRecursion}
 use Rattle.std.proofs.lemmas.List.{append-nil}
-use Rattle.std.proofs.lemmas.List.Elements.{All-nil}
-use Rattle.smpp_wire.specs.Command.{MessageFields, Fields, BindReply, Message, SubmitReply, Nothing, Command}
-use Rattle.smpp_wire.specs.Grammar.{IsText, IsTime, IsMessage, message, IsOf, body, IsCommand, frame, row_of}
+use Rattle.smpp_wire.specs.Command.{Fields, SubmitReply, Nothing, Command}
+use Rattle.smpp_wire.specs.Grammar.{IsText, IsOf, body, IsCommand, frame, row_of}
+use Rattle.smpp_wire.specs.Answers.{Tells}
+use Rattle.smpp_wire.specs.declared.pdu.Pdu.{Pdu}
+use Rattle.smpp_wire.specs.declared.frame.Frame.TheVariants.{Whole}
 use Rattle.fake_centre.specs.Saying.{AreFrames, command_with}
 
 -- one command more
@@ -34,3 +36,7 @@ plain_good id status sequence id_fits status_fits sequence_fits is = small id st
 -- one that answers with an id
 pub answer_good : (id : List ℕ) (sequence : ℕ) → sequence < 2 ^ 32 → IsText 65 id → IsCommand (command_with 2147483652 0 sequence (SubmitReply id))
 answer_good id sequence fits text = small 2147483652 0 sequence (SubmitReply id) (omega arith) (omega arith) fits text (omega (arith, length-append id (0 ∷ []), text.1))
+
+-- a frame at the front is no longer than what it stands in
+pub whole_within : (octets : List ℕ) (pdu : Pdu) (len : ℕ) → Tells octets (Whole pdu len) → len ≤ length octets
+whole_within octets pdu len told = omega (arith, length-take len octets, told.1, ap length told.2)

@@ -1,8 +1,8 @@
 -- What a centre sends are commands of SMPP.
-use Rattle.std.proofs.Common.{◌≡◌, ◌≢◌, ℕ, ◌+◌, ◌<◌, ◌≤◌, ◌^◌, List, [], ◌∷◌, ◌++◌, length, All, refl, ap, arith, length-append, inl}
+use Rattle.std.proofs.Common.{◌≢◌, ℕ, ◌<◌, ◌≤◌, ◌^◌, List, [], length, refl, arith, length-append, inl}
 use Rattle.std.proofs.lemmas.List.Elements.{All-nil}
-use Rattle.smpp_wire.specs.Command.{MessageFields, Message}
-use Rattle.smpp_wire.specs.Grammar.{IsText, IsMessage, message, IsCommand}
+use Rattle.smpp_wire.specs.Command.{Message}
+use Rattle.smpp_wire.specs.Grammar.{IsText, IsMessage, IsCommand}
 use Rattle.fake_centre.specs.Saying.{command_with, delivery_of}
 use Rattle.fake_centre.proofs.Commands.{small}
 

@@ -1,11 +1,9 @@
 -- What a centre as a peer went through, and what its calls answer.
-use Rattle.std.specs.Prelude.{◌≡◌, ℕ, true, List, [], ◌∷◌, ◌++◌, ⊤, Some, None}
-use Rattle.kn_base.specs.Count.{Counts, next_count}
+use Rattle.std.specs.Prelude.{◌≡◌, ℕ, List, ⊤, Some, None}
+use Rattle.kn_base.specs.Count.{Counts}
 use Rattle.kn_base.specs.Course.{Course}
 use Rattle.kn_base.specs.Talk.{said_of}
 use Rattle.kn_base.specs.declared.piece.Piece.{Piece}
-use Rattle.kn_base.specs.declared.source.Take.{Take}
-use Rattle.kn_base.specs.declared.source.Take.TheVariants as take_is
 use Rattle.kn_base.specs.declared.sink.Give.{Give}
 use Rattle.kn_base.specs.declared.sink.Give.TheVariants as give_is
 use Rattle.fake_centre.specs.declared.centre_peer.CentrePeer.{CentrePeer}
@@ -20,13 +18,6 @@ told_course counts pieces = record { counts = counts; left = None; given = Some 
 
 abbrev pub peer_course : CentrePeer → Course
 peer_course p = told_course (counts_of p) p.pieces.items
-
--- Nothing is there to be taken: it is a quiet, which is counted once, or the end.
-abbrev pub Waits : Take → Counts → Counts → Type 0
-Waits (take_is.Bytes n) old new = ⊥
-Waits take_is.End old new = new ≡ record old { ended = true }
-Waits take_is.Quiet old new = new ≡ record old { quiets = next_count old.quiets }
-Waits take_is.Failed old new = ⊥
 
 -- all octets were given, or none
 abbrev pub GivesAll : ℕ → Give → Type 0

@@ -1,7 +1,7 @@
 -- What a centre says, as commands of SMPP 3.4.
-use Rattle.std.specs.Prelude.{◌≡◌, ℕ, List, [], ◌∷◌, ◌++◌, length, take}
+use Rattle.std.specs.Prelude.{◌≡◌, ℕ, List, [], ◌++◌}
 use Rattle.std.specs.List.{flat_map, AllByRecursion}
-use Rattle.smpp_wire.specs.Command.{Fields, MessageFields, Command, BindReply, Message, SubmitReply, Nothing}
+use Rattle.smpp_wire.specs.Command.{Fields, MessageFields, Command, SubmitReply, Nothing}
 use Rattle.smpp_wire.specs.Grammar.{IsCommand, IsText, frame}
 use Rattle.smpp_wire.specs.declared.command.TheConstants.{SUBMIT_SM_RESP}
 use Rattle.fake_centre.specs.declared.reply.CentreReply.{CentreReply}

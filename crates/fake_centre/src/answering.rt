@@ -166,6 +166,7 @@ fn answer(
 
 /// Answers each whole frame at the front, in order, and says how many octets these have. Behind octets that are no frame, and behind
 /// the end of the session, nothing more is heard.
+#[tactic(auto, using(crate::proofs::Commands::whole_within))]
 pub(crate) fn answer_all(
     alloc: Global,
     script: &Script,

@@ -1,9 +1,8 @@
 //! A centre as a peer.
 
-ghost use Rattle.std.specs.Prelude.{◌≡◌, ◌≤◌, ◌<◌, ◌∷◌, [], ◌++◌, min, length, take, IfOk, OnOk, OnErr};
+ghost use Rattle.std.specs.Prelude.{◌≡◌, false, ℕ, List, ◌≤◌, ◌<◌, ◌∷◌, [], ◌++◌, min, length, take, IfOk, OnOk, OnErr};
 ghost use Rattle.kn_base.specs.Course.{IsFresh, Takes, Gives};
 ghost use Rattle.kn_base.specs.declared.piece.Piece.TheVariants as piece_is;
-ghost use Rattle.fake_centre.specs.CentrePeer.{peer_course, counts_of, Waits, GivesAll};
 
 use crate::Centre;
 use kn_base::{Give, Items, Memory, Meter, Octets, Past, Peer, Piece, Sink, Source, Take, raised};
@@ -31,6 +30,8 @@ pub struct CentrePeer {
 }
 
 impl CentrePeer {
+    ghost use Rattle.fake_centre.specs.CentrePeer.{peer_course, counts_of};
+
     /// The peer before its first call. It takes no memory.
     pub fn new(alloc: Global, centre: Centre) -> CentrePeer
         ensures { IsFresh (peer_course result) }
@@ -51,7 +52,7 @@ impl CentrePeer {
     /// Lets the centre hear octets, and puts them last among the pieces. After `Memory` it has heard nothing of these.
     fn say(&mut self, octets: &[u8]) -> Result<(), Memory>
         ensures ok { OnOk result (self.new.pieces.items ≡ self.old.pieces.items ++ piece_is.Said octets.now ∷ []) }
-        ensures err { OnErr result (self.new ≡ self.old) }
+        ensures err { OnErr result (self.new.pieces.items ≡ self.old.pieces.items) }
         ensures counts { counts_of self.new ≡ counts_of self.old }
     {
         let piece = Octets::from_slice(self.alloc, octets)?;
@@ -70,8 +71,8 @@ impl CentrePeer {
 
     /// What a take answers where nothing is left of what the centre said.
     fn wait(&mut self) -> Take
-        ensures pieces { self.new.pieces.items ≡ self.old.pieces.items }
-        ensures waits { Waits result (counts_of self.old) (counts_of self.new) }
+        requires { self.old.ended ≡ false }
+        ensures { (buffer : List ℕ) → Takes buffer result (peer_course self.old) (peer_course self.new) }
     {
         let done = self.centre.is_done();
         if self.centre.is_over() || self.rested && done {
@@ -100,6 +101,10 @@ fn hear(
     octets: &[u8],
     into: &mut [u8],
 ) -> Result<usize, Memory>
+    requires room { 0 < length into.old }
+    requires some { 0 < length octets.now }
+    ensures some { IfOk result (λ count. 1 ≤ count) }
+    ensures within { IfOk result (λ count. count ≤ length into.new) }
     ensures count { IfOk result (λ count. count ≡ min (length into.old) (length octets.now)) }
     ensures octets { IfOk result (λ count. take count into.new ≡ take count octets.now) }
     ensures ok { IfOk result (λ count. pieces.new.items ≡ pieces.old.items ++ piece_is.Heard (take count into.new) ∷ []) }
@@ -123,19 +128,20 @@ impl Meter for CentrePeer {
 }
 
 impl Source for CentrePeer {
+    ghost use Rattle.fake_centre.specs.CentrePeer.{peer_course};
+
     /// Gives what the centre said.
     fn take(&mut self, into: &mut [u8]) -> Take
         requires { 0 < length into.old }
-        ensures takes { Takes into.new result (peer_course self.old) (peer_course self.new) }
-        ensures well { (counts_of self.new).faults ≡ 0 }
+        ensures { Takes into.new result (peer_course self.old) (peer_course self.new) }
     {
         if self.ended {
             return Take::End;
         }
-        let left = &self.answers.as_slice()[self.at..];
-        if left.is_empty() {
+        if self.at >= self.answers.len() {
             return self.wait();
         }
+        let left = &self.answers.as_slice()[self.at..];
         match hear(self.alloc, &mut self.pieces, left, into) {
             Ok(count) => {
                 self.at += count;
@@ -150,6 +156,8 @@ impl Source for CentrePeer {
 }
 
 impl Sink for CentrePeer {
+    ghost use Rattle.fake_centre.specs.CentrePeer.{peer_course, GivesAll};
+
     /// Lets the centre hear all octets.
     fn give(&mut self, bytes: &[u8]) -> Give
         requires { 0 < length bytes.now }

@@ -9,7 +9,6 @@ use kn_base::{Memory, Octets};
 use smpp_wire::{Body, Pdu, write_pdu};
 
 /// Puts the frame of a command last.
-#[tactic(auto, using(crate::proofs::Commands::frames_more))]
 pub(crate) fn put_command(
     into: &mut Octets,
     id: u32,

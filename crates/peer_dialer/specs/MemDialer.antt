@@ -1,5 +1,5 @@
 -- What a dialer in memory tells, and what its dials are to answer.
-use Rattle.std.specs.Prelude.{◌≡◌, ◌≢◌, ℕ, List, [], ◌∷◌, length, Option, Some}
+use Rattle.std.specs.Prelude.{◌≡◌, ◌≢◌, ℕ, List, [], ◌∷◌, length, Some}
 use Rattle.kn_base.specs.Calls.{Calls, IsFailing}
 use Rattle.kn_base.specs.Count.{next_count}
 use Rattle.kn_base.specs.declared.meter.Meter.{Ghosts}
