@@ -1,7 +1,7 @@
 -- What is read of octets is what their command is heard as.
-use Rattle.std.proofs.Common.{◌≡◌, ℕ, ◌≤◌, List, [], ◌++◌, length, take, min, refl, sym, ap, ◌∙◌, arith}
+use Rattle.std.proofs.Common.{◌≡◌, ℕ, ◌≤◌, List, [], ◌++◌, length, take, min, Result, Ok, Err, IfOk, refl, sym, ap, subst, ◌∙◌, arith}
 use Rattle.std.proofs.lemmas.List.{length-take}
-use Rattle.std.specs.Borrow.{Bor}
+use Rattle.kn_base.specs.declared.memory.Memory.{Memory}
 use Rattle.exact_octets.specs.Fronts.{Begins, IsProperFront, BreaksOffAt}
 use Rattle.smpp_wire.specs.declared.frame.Frame.{Frame}
 use Rattle.smpp_wire.specs.declared.frame.Frame.TheVariants as answer
@@ -55,6 +55,11 @@ whole_read octets pdu len said r e =
       need_more = λ front. let other = r.need_more (front_to octets front) in absurd cc;
       bad = λ at code refuses. let other = r.bad refuses.seen refuses.off in let place = refuses.place in absurd cc;
     }
+
+-- the same of what a function answers that may lack memory
+pub whole_answered : (octets : List ℕ) (pdu : Pdu) (len : ℕ) (r : Result Framed Memory) → IsFramedAs octets (answer.Whole pdu len) → IfOk r (λ x. x ≡ framed.Whole (heard_of (command_of pdu)) len) → IfOk r (IsReadAs Hears Refuses octets)
+whole_answered octets pdu len (Ok x) is told = subst (IsReadAs Hears Refuses octets) (sym told) (whole_read octets pdu len (heard_of (command_of pdu)) is refl)
+whole_answered octets pdu len (Err failed) is told = tt
 
 pub more_read : (octets : List ℕ) → IsFramedAs octets answer.NeedMore → IsReadAs Hears Refuses octets framed.NeedMore
 more_read octets r = record {

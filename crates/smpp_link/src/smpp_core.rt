@@ -2,10 +2,12 @@
 
 ghost use Rattle.std.specs.Prelude.{◌≡◌, ◌<◌, ◌≤◌, ◌^◌, ◌==◌, not, ℕ, length, filter, IfOk};
 ghost use Rattle.route_rules.specs.declared.link_kind.LinkKind.TheVariants as kinds;
-ghost use Rattle.smpp_wire.specs.Command.{Bind, fields_of};
+ghost use Rattle.smpp_wire.specs.Command.{Bind, fields_of, command_of};
 ghost use Rattle.smpp_wire.specs.Grammar.{IsBind};
 ghost use Rattle.config_groups.specs.Ranges.{IsLogin};
+ghost use Rattle.link_core.specs.declared.framed.Framed.TheVariants.{Whole};
 ghost use Rattle.link_core.specs.Grammar.{IsReadAs};
+ghost use Rattle.smpp_link.specs.Hearing as hearing;
 ghost use Rattle.smpp_link.specs.Hearing.{Hears, Refuses};
 ghost use Rattle.smpp_link.specs.Saying as saying;
 ghost use Rattle.smpp_link.specs.Tags as numbers;
@@ -17,7 +19,7 @@ use kn_base::{Memory, Octets};
 use link_core::{Framed, LinkCore, Out};
 use route_rules::LinkKind;
 use smpp_wire::limits::INTERFACE_VERSION;
-use smpp_wire::{Body, Frame, read_frame};
+use smpp_wire::{Body, Frame, Pdu, read_frame};
 use std::alloc::Global;
 use std::marker::Model;
 
@@ -94,18 +96,25 @@ impl SmppCore {
     }
 }
 
+/// What is heard of a frame of so many octets.
+fn heard_whole(alloc: Global, pdu: &Pdu, len: usize) -> Result<Framed, Memory>
+    ensures { IfOk result (λ framed. framed ≡ Whole (hearing.heard_of (command_of pdu.now)) len) }
+{
+    match heard_of(alloc, pdu) {
+        Ok(heard) => Ok(Framed::Whole { heard, len }),
+        Err(failed) => Err(failed),
+    }
+}
+
 /// What stands at the front of octets.
 fn read_as(alloc: Global, octets: &[u8]) -> Result<Framed, Memory>
     ensures { IfOk result (IsReadAs Hears Refuses octets.now) }
 {
-    Ok(match read_frame(octets) {
-        Frame::Whole { pdu, len } => Framed::Whole {
-            heard: heard_of(alloc, &pdu)?,
-            len,
-        },
-        Frame::NeedMore => Framed::NeedMore,
-        Frame::Bad { at, code } => Framed::Bad { at, code },
-    })
+    match read_frame(octets) {
+        Frame::Whole { pdu, len } => heard_whole(alloc, &pdu, len),
+        Frame::NeedMore => Ok(Framed::NeedMore),
+        Frame::Bad { at, code } => Ok(Framed::Bad { at, code }),
+    }
 }
 
 /// The tag behind another, or the first one.
