@@ -1,29 +1,21 @@
 -- What commands are heard as keeps to the laws of a protocol.
-use Rattle.std.proofs.Common.{◌≡◌, ℕ, ◌+◌, ◌/◌, ◌%◌, ◌<◌, ◌≤◌, ◌^◌, Bool, true, false, cond, List, [], ◌∷◌, ◌++◌, length, IfSome, refl, sym, ap, subst, ◌∙◌, arith, length-append, inl, inr}
+use Rattle.std.proofs.Common.{◌≡◌, ℕ, ◌/◌, ◌%◌, ◌<◌, ◌≤◌, ◌^◌, Bool, true, false, cond, List, ◌++◌, length, IfSome, refl, sym, ap, subst, ◌∙◌, arith, inl, inr}
 use Rattle.std.specs.Prelude.{nat_lt, ◌==◌, ◌||◌}
 use Rattle.std.proofs.lemmas.Bool.{cases_Bool, eqb-true}
-use Rattle.exact_octets.specs.Fronts.{Begins, IsProperFront, BreaksOffAt}
-use Rattle.exact_octets.specs.Numbers.{number}
 use Rattle.sms_record.specs.declared.limits.TheConstants.{MOST_BODY, MOST_HEADER}
 use Rattle.sms_record.specs.Header.{IsHeaderOrNone}
-use Rattle.smpp_wire.specs.declared.frame.Frame.{Frame}
-use Rattle.smpp_wire.specs.declared.frame.Frame.TheVariants as answer
 use Rattle.smpp_wire.specs.declared.command.TheConstants.{GENERIC_NACK, SUBMIT_SM_RESP, DELIVER_SM, DELIVER_SM_RESP, UNBIND, UNBIND_RESP, BIND_TRANSCEIVER_RESP, ENQUIRE_LINK, ENQUIRE_LINK_RESP}
 use Rattle.smpp_wire.specs.Command.{MessageFields, Fields, Bind, BindReply, Message, SubmitReply, DeliverReply, Nothing, Any, Command}
-use Rattle.smpp_wire.specs.Grammar.{IsOf, IsCommand, frame, frame_length, body, row_of}
-use Rattle.smpp_wire.specs.Grammar.{IsFrame as IsWireFrame}
-use Rattle.smpp_wire.specs.Answers.{refused}
+use Rattle.smpp_wire.specs.Grammar.{IsOf, frame, frame_length, row_of}
 use Rattle.smpp_wire.proofs.Streams.{one_frame}
-use Rattle.link_core.specs.declared.verdict.Verdict.{Verdict}
 use Rattle.link_core.specs.declared.heard.Heard.{Heard}
 use Rattle.link_core.specs.Heard.{heard_tag, IsSoundVerdict, IsSound, IsArrival}
-use Rattle.link_core.specs.Arrivals.{arrival_of, address_of, body_of}
+use Rattle.link_core.specs.Arrivals.{address_of, body_of}
 use Rattle.link_core.specs.Dcs.{class_in}
-use Rattle.link_core.specs.Grammar.{IsFrame, HasFirst, NoneComes, IsGrammar}
+use Rattle.link_core.specs.Grammar.{IsGrammar}
 use Rattle.link_core.proofs.Arrivals.{address_kept, body_coded, body_kept, arrives}
-use Rattle.link_core.proofs.Streams.{none_comes}
-use Rattle.smpp_link.specs.Delivery.{is_report, says_header, part_header, header_and_text, coding_of, text_of, is_international, sms_of, delivered}
-use Rattle.smpp_link.specs.Hearing.{is_temporary, verdict_of, foreign_in, replied, told, heard_of, Hears, Refuses}
+use Rattle.smpp_link.specs.Delivery.{is_report, says_header, header_and_text, coding_of, text_of, is_international, sms_of, delivered}
+use Rattle.smpp_link.specs.Hearing.{is_temporary, verdict_of, foreign_in, told, heard_of, Hears}
 use Rattle.smpp_link.proofs.Headers.{header_good}
 
 -- what is true of both is true of the one that is chosen
@@ -39,8 +31,8 @@ Has tag heard = heard_tag heard ≡ tag
 told_tag : (id tag status : ℕ) → Has tag (told id tag status)
 told_tag id tag status =
     chosen (Has tag) (id == BIND_TRANSCEIVER_RESP) _ _ refl (chosen (Has tag) (id == UNBIND) _ _ refl (chosen (Has tag) (id == UNBIND_RESP) _ _ refl
-      (chosen (Has tag) (id == ENQUIRE_LINK) _ _ refl (chosen (Has tag) (id == ENQUIRE_LINK_RESP || id == DELIVER_SM_RESP) _ _ refl
-        (chosen (Has tag) (id == GENERIC_NACK) _ _ refl refl)))))
+    (chosen (Has tag) (id == ENQUIRE_LINK) _ _ refl (chosen (Has tag) (id == ENQUIRE_LINK_RESP || id == DELIVER_SM_RESP) _ _ refl
+    (chosen (Has tag) (id == GENERIC_NACK) _ _ refl refl)))))
 
 delivered_tag : (tag : ℕ) (fields : Fields) → Has tag (delivered tag fields)
 delivered_tag tag (Message m) = chosen (Has tag) (is_report m.esm_class) _ _ refl refl
@@ -54,15 +46,15 @@ delivered_tag tag (Any octets) = refl
 pub tag_of : (c : Command) → heard_tag (heard_of c) ≡ c.sequence
 tag_of c =
     chosen (Has c.sequence) (c.id == SUBMIT_SM_RESP) _ _ refl
-      (chosen (Has c.sequence) (c.id == DELIVER_SM) _ _ (delivered_tag c.sequence c.fields) (told_tag c.id c.sequence c.status))
+    (chosen (Has c.sequence) (c.id == DELIVER_SM) _ _ (delivered_tag c.sequence c.fields) (told_tag c.id c.sequence c.status))
 
 -- ---- what is heard is sound
 
 told_sound : (id tag status : ℕ) → IsSound (told id tag status)
 told_sound id tag status =
     chosen IsSound (id == BIND_TRANSCEIVER_RESP) _ _ tt (chosen IsSound (id == UNBIND) _ _ tt (chosen IsSound (id == UNBIND_RESP) _ _ tt
-      (chosen IsSound (id == ENQUIRE_LINK) _ _ tt (chosen IsSound (id == ENQUIRE_LINK_RESP || id == DELIVER_SM_RESP) _ _ tt
-        (chosen IsSound (id == GENERIC_NACK) _ _ tt tt)))))
+    (chosen IsSound (id == ENQUIRE_LINK) _ _ tt (chosen IsSound (id == ENQUIRE_LINK_RESP || id == DELIVER_SM_RESP) _ _ tt
+    (chosen IsSound (id == GENERIC_NACK) _ _ tt tt)))))
 
 foreign_short : (fields : Fields) → IsOf (row_of SUBMIT_SM_RESP) fields → length (foreign_in fields) ≤ MOST_BODY
 foreign_short (SubmitReply message_id) is = omega (arith, is.1)
@@ -81,7 +73,7 @@ classed : (dcs : ℕ) → IfSome (class_in dcs) (λ class. class ≤ 3)
 classed dcs =
     let small : dcs % 4 ≤ 3 = omega arith in
     chosen (λ class. IfSome class (λ class. class ≤ 3)) (nat_lt dcs 192) _ _ (chosen (λ class. IfSome class (λ class. class ≤ 3)) (dcs / 16 % 2 == 1) _ _ small tt)
-      (chosen (λ class. IfSome class (λ class. class ≤ 3)) (nat_lt dcs 240) _ _ tt small)
+    (chosen (λ class. IfSome class (λ class. class ≤ 3)) (nat_lt dcs 240) _ _ tt small)
 
 abbrev IsParted : List ℕ × List ℕ → Type 0
 IsParted parts = (length parts.0 ≤ MOST_HEADER) × IsHeaderOrNone parts.0
@@ -95,8 +87,8 @@ message_arrives m =
     let coding = coding_of m.data_coding in
     let text = text_of m.data_coding (header_and_text m.esm_class m.short_message).1 in
     arrives (address_of (is_international m.source_ton) m.source) (address_of (is_international m.destination_ton) m.destination) coding (class_in m.data_coding)
-      (header_and_text m.esm_class m.short_message).0 (body_of coding text) (address_kept (is_international m.source_ton) m.source)
-      (address_kept (is_international m.destination_ton) m.destination) (classed m.data_coding) parts.0 parts.1 (body_kept coding text) (body_coded coding text)
+    (header_and_text m.esm_class m.short_message).0 (body_of coding text) (address_kept (is_international m.source_ton) m.source)
+    (address_kept (is_international m.destination_ton) m.destination) (classed m.data_coding) parts.0 parts.1 (body_kept coding text) (body_coded coding text)
 
 delivered_sound : (tag : ℕ) (fields : Fields) → IsSound (delivered tag fields)
 delivered_sound tag (Message m) = chosen IsSound (is_report m.esm_class) _ _ tt (message_arrives m)

@@ -1,24 +1,25 @@
 -- What is said is a command of SMPP.
-use Rattle.std.proofs.Common.{◌≡◌, ◌≢◌, ℕ, ◌+◌, ◌-◌, ◌*◌, ◌/◌, ◌%◌, ◌<◌, ◌≤◌, ◌^◌, Bool, true, false, cond, not, ltb, eqb, List, [], ◌∷◌, ◌++◌, length, All, filter, refl, sym, ap, subst, ◌∙◌, arith, length-append, inl, inr, ◌⊎◌, leb-true}
+use Rattle.std.proofs.Common.{◌≡◌, ◌≢◌, ℕ, ◌+◌, ◌/◌, ◌%◌, ◌<◌, ◌≤◌, ◌^◌, Bool, true, false, not, List, [], ◌∷◌, ◌++◌, length, All, Result, Ok, Err, IfOk, refl, sym, ap, subst, ◌∙◌, arith, length-append, inl, inr, leb-true}
 use Rattle.std.specs.Prelude.{codes, ◌==◌, nat_le}
 use Rattle.std.specs.List.{list_all}
 use Rattle.std.proofs.lemmas.Bool.{cases_Bool, and_parts, eqb-false, not-true, false≢true}
 use Rattle.std.proofs.lemmas.List.Elements.{All-nil, All-cons, All-append, All-head, All-tail, filter_passes}
+use Rattle.kn_base.specs.declared.memory.Memory.{Memory}
 use Rattle.sms_record.specs.declared.address.Address.{Address}
 use Rattle.sms_record.specs.declared.address.Address.TheVariants.{Number, Text}
 use Rattle.sms_record.specs.declared.coding.Coding.{Coding}
 use Rattle.sms_record.specs.declared.coding.Coding.TheVariants.{Seven, Eight, Ucs2}
 use Rattle.sms_record.specs.declared.sms.Sms.{Sms}
-use Rattle.sms_record.specs.Record.{IsSms, IsAddress, IsDigit, address_text}
-use Rattle.sms_record.specs.Room.{cap, header_len}
-use Rattle.config_values.specs.Values.{is_text_octet, is_sendable}
+use Rattle.sms_record.specs.Record.{IsAddress, IsDigit, address_text}
+use Rattle.sms_record.specs.Room.{cap}
+use Rattle.config_values.specs.Values.{is_within, is_text_octet, is_sendable}
 use Rattle.config_values.specs.Forms.{IsWithin, IsPrintable}
 use Rattle.config_groups.specs.Ranges.{IsLogin}
 use Rattle.route_rules.specs.declared.link_kind.LinkKind.TheVariants as kinds
-use Rattle.route_rules.specs.Carriage.{is_number, outgoing_len, units, fits, carries}
+use Rattle.route_rules.specs.Carriage.{is_number, outgoing_len, units}
 use Rattle.concat_split.proofs.Headers.{length-header_of}
-use Rattle.smpp_wire.specs.Command.{BindFields, MessageFields, Fields, Bind, BindReply, Message, SubmitReply, DeliverReply, Nothing, Any, Command}
-use Rattle.smpp_wire.specs.Grammar.{IsText, IsTime, ended, AreTlvs, IsBind, bind, IsMessage, message, IsOf, body, IsCommand, frame, frame_length, row_of}
+use Rattle.smpp_wire.specs.Command.{BindFields, MessageFields, Fields, Bind, BindReply, Message, SubmitReply, DeliverReply, Nothing, Any}
+use Rattle.smpp_wire.specs.Grammar.{IsText, IsTime, ended, IsBind, bind, IsMessage, message, IsOf, body, IsCommand, frame, row_of}
 use Rattle.link_core.specs.declared.out.Out.{Out}
 use Rattle.link_core.specs.declared.out.Out.TheVariants as out
 use Rattle.link_core.specs.Saying.{out_tag, IsSubmit, MaySay, IsFrameWith}
@@ -69,6 +70,10 @@ bind_good username password system_type login short = record {
   address_range = (All-nil (λ octet. octet ≢ 0), omega arith);
 }
 
+-- the same of octets that are these
+pub bind_as : (id key type username password system_type : List ℕ) → id ≡ username → key ≡ password → type ≡ speakable system_type → IsLogin kinds.Smpp username password → length system_type ≤ 12 → IsBind (bind_with id key type)
+bind_as id key type username password system_type a b c login short = rw a (rw b (rw c (bind_good username password system_type login short)))
+
 length-ended : (text : List ℕ) → length (ended text) ≡ length text + 1
 length-ended text = length-append text (0 ∷ [])
 
@@ -76,17 +81,28 @@ bind_short : (b : BindFields) → IsBind b → length (bind b) ≤ 82
 bind_short b good =
     let range = ended b.address_range in
     let version = b.interface_version ∷ b.addr_ton ∷ b.addr_npi ∷ [] in
-    omega (arith, length-append (ended b.system_id) (ended b.password ++ (ended b.system_type ++ (version ++ range))),
-      length-append (ended b.password) (ended b.system_type ++ (version ++ range)), length-append (ended b.system_type) (version ++ range),
-      length-append version range, length-ended b.system_id, length-ended b.password, length-ended b.system_type, length-ended b.address_range,
-      good.system_id.1, good.password.1, good.system_type.1, good.address_range.1)
+    omega (
+      arith,
+      length-append (ended b.system_id) (ended b.password ++ (ended b.system_type ++ (version ++ range))),
+      length-append (ended b.password) (ended b.system_type ++ (version ++ range)),
+      length-append (ended b.system_type) (version ++ range),
+      length-append version range,
+      length-ended b.system_id,
+      length-ended b.password,
+      length-ended b.system_type,
+      length-ended b.address_range,
+      good.system_id.1,
+      good.password.1,
+      good.system_type.1,
+      good.address_range.1,
+    )
 
 -- ---- a message
 
 digit_pair : (n : ℕ) → NoNul (two_digits n)
 digit_pair n =
     All-cons (λ octet. octet ≢ 0) (48 + n / 10) ((48 + n % 10) ∷ []) (λ e. omega (arith, e))
-      (All-cons (λ octet. octet ≢ 0) (48 + n % 10) [] (λ e. omega (arith, e)) (All-nil (λ octet. octet ≢ 0)))
+    (All-cons (λ octet. octet ≢ 0) (48 + n % 10) [] (λ e. omega (arith, e)) (All-nil (λ octet. octet ≢ 0)))
 
 period_no_nul : (minutes : ℕ) → NoNul (period_of minutes)
 period_no_nul minutes =
@@ -96,9 +112,9 @@ period_no_nul minutes =
     let P : ℕ → Type 0 = λ octet. octet ≢ 0 in
     let not_nul : ℕ → Bool = λ octet. not (octet == 0) in
     All-append P (codes "0000") (days ++ (hours ++ (rest ++ codes "00000R"))) (from_test not_nul refl (codes "0000") refl)
-      (All-append P days (hours ++ (rest ++ codes "00000R")) (digit_pair (minutes / 1440))
-        (All-append P hours (rest ++ codes "00000R") (digit_pair (minutes % 1440 / 60))
-          (All-append P rest (codes "00000R") (digit_pair (minutes % 60)) (from_test not_nul refl (codes "00000R") refl))))
+    (All-append P days (hours ++ (rest ++ codes "00000R")) (digit_pair (minutes / 1440))
+    (All-append P hours (rest ++ codes "00000R") (digit_pair (minutes % 1440 / 60))
+    (All-append P rest (codes "00000R") (digit_pair (minutes % 60)) (from_test not_nul refl (codes "00000R") refl))))
 
 validity_good : (time validity now : ℕ) → IsTime (validity_of time validity now)
 validity_good time validity now =
@@ -110,8 +126,9 @@ validity_good time validity now =
 sender_good : (address : Address) → IsAddress address → is_sendable address ≡ true → IsText 21 (address_text address)
 sender_good (Number plus digits) is sendable = (digits_no_nul digits is.2, omega (arith, is.1))
 sender_good (Text text) is sendable =
-    let parts = and_parts _ _ sendable in
-    (from_test is_text_octet refl text parts.1, omega (arith, leb-true (length text) 11 (and_parts _ _ parts.0).1))
+    let parts = and_parts (is_within 1 11 (length text)) (list_all is_text_octet text) sendable in
+    let most : length text ≤ 11 = leb-true (length text) 11 (and_parts (nat_le 1 (length text)) (nat_le (length text) 11) parts.0).1 in
+    (from_test is_text_octet refl text parts.1, omega (arith, most))
 
 receiver_good : (address : Address) → IsAddress address → is_number address ≡ true → IsText 21 (address_text address)
 receiver_good (Number plus digits) is number = (digits_no_nul digits is.2, omega (arith, is.1))
@@ -131,7 +148,7 @@ submit_good number sms now may =
     let header = header_in number sms in
     let len : length header ≡ outgoing_len sms = length-header_of sms.udh sms.total sms.part number in
     let all : outgoing_len sms + length sms.body ≤ 254 =
-        room sms.coding (outgoing_len sms) sms.body (leb-true (outgoing_len sms) 140 fit.0) (leb-true (units sms.coding sms.body) (cap sms.coding (outgoing_len sms)) fit.1) in
+    room sms.coding (outgoing_len sms) sms.body (leb-true (outgoing_len sms) 140 fit.0) (leb-true (units sms.coding sms.body) (cap sms.coding (outgoing_len sms)) fit.1) in
     record {
       service_type = (All-nil (λ octet. octet ≢ 0), omega arith);
       source = sender_good sms.sender may.recorded.sender from.0;
@@ -176,6 +193,10 @@ submit_sayable tag number sms now may held =
     let good = submit_good number sms now may in
     small 4 0 tag (Message (submit_of number sms now)) (omega arith) (omega arith) held good (message_short (submit_of number sms now) good refl)
 
+-- the same of fields that are made of these parts
+pub submit_as : (tag number : ℕ) (sms : Sms) (now esm_class : ℕ) (text period : List ℕ) (fields : Fields) → esm_class ≡ class_of (header_in number sms) → text ≡ header_in number sms ++ sms.body → period ≡ validity_of sms.time sms.validity now → fields ≡ Message (submit_with esm_class text period sms) → IsSubmit kinds.Smpp number sms now → tag < 2 ^ 32 → IsCommand (command_with 4 0 tag fields)
+submit_as tag number sms now esm_class text period fields a b p f may held = rw f (rw a (rw b (rw p (submit_sayable tag number sms now may held))))
+
 pub sayable : (login : Fields) (sayings : Out) → IsOf (row_of 9) login → MaySay kinds.Smpp Hears sayings → out_tag sayings < 2 ^ 32 → IsCommand (command_of login sayings)
 sayable login (out.Login tag) is may held = bound login tag is held
 sayable login (out.Submit tag number sms now) is may held = submit_sayable tag number sms now may held
@@ -207,3 +228,8 @@ said_is_frame login sayings is may held =
       frame = record { command = c; good = sayable login sayings is may held; frame_is = refl; heard_is = refl };
       tagged = tag_of c ∙ said_tag login sayings;
     }
+
+-- the same of what a function answers that may lack memory
+pub frame_written : (login : Fields) (sayings : Out) (r : Result (List ℕ) Memory) → IsOf (row_of 9) login → MaySay kinds.Smpp Hears sayings → out_tag sayings < 2 ^ 32 → IfOk r (λ octets. octets ≡ frame (command_of login sayings)) → IfOk r (IsFrameWith Hears (out_tag sayings))
+frame_written login sayings (Ok octets) is may held e = subst (IsFrameWith Hears (out_tag sayings)) (sym e) (said_is_frame login sayings is may held)
+frame_written login sayings (Err failed) is may held e = tt

@@ -1,10 +1,9 @@
 -- A header is parted from its text exactly where one stands first that a message may have.
-use Rattle.std.proofs.Common.{◌≡◌, ℕ, ◌+◌, ◌<◌, ◌≤◌, Bool, true, false, cond, List, [], ◌∷◌, ◌++◌, length, take, drop, get_or, suc, Result, Ok, Err, refl, sym, ap, ◌∙◌, arith, inl, inr, ◌⊎◌, leb-true, length-append, take-append-drop}
+use Rattle.std.proofs.Common.{◌≡◌, ℕ, ◌+◌, ◌<◌, ◌≤◌, true, List, [], ◌++◌, length, take, drop, get_or, suc, Result, Ok, Err, refl, sym, ap, ◌∙◌, arith, inl, inr, ◌⊎◌, leb-true, length-append, take-append-drop}
 use Rattle.std.specs.Prelude.{nat_le}
 use Rattle.std.proofs.lemmas.Bool.{cases_Bool, le-leb}
 use Rattle.std.proofs.lemmas.List.{take_at, length-take-le}
 use Rattle.exact_octets.specs.declared.read_fault.ReadFault.{ReadFault}
-use Rattle.exact_octets.specs.declared.read_fault.ReadFault.TheVariants as faults
 use Rattle.exact_octets.proofs.Readers.{AreOctets, Answers}
 use Rattle.sms_record.specs.declared.limits.TheConstants.{MOST_HEADER}
 use Rattle.sms_record.specs.Header.{Element, elements, header, IsHeaderOrNone}
@@ -59,16 +58,16 @@ no_octets_parted octets fits none = no_header_parted octets fits (λ es rest e s
 pub no_header_by : (octets : List ℕ) → AreOctets octets → (MOST_HEADER < get_or octets 0 0 + 1) ⊎ (length octets < get_or octets 0 0 + 1) → ([], octets) ≡ part_header octets
 no_header_by octets fits many =
     no_header_parted octets fits (λ es rest e short.
-      let count : get_or octets 0 0 ≡ length (elements es) = ap (λ (t : List ℕ). get_or t 0 0) e in
-      let len : length octets ≡ suc (length (elements es) + length rest) = ap length e ∙ ap (λ (n : ℕ). suc n) (length-append (elements es) rest) in
-      elim many [ inl over ↦ omega (arith, over, count, short) | inr past ↦ omega (arith, past, count, len) ])
+    let count : get_or octets 0 0 ≡ length (elements es) = ap (λ (t : List ℕ). get_or t 0 0) e in
+    let len : length octets ≡ suc (length (elements es) + length rest) = ap length e ∙ ap (λ (n : ℕ). suc n) (length-append (elements es) rest) in
+    elim many [ inl over ↦ omega (arith, over, count, short) | inr past ↦ omega (arith, past, count, len) ])
 
 -- as many octets as the first one says are no header
 pub no_header_at : (octets : List ℕ) (len : ℕ) → AreOctets octets → len ≡ get_or octets 0 0 + 1 → ((es : List Element) → take len octets ≡ header es → ⊥) → ([], octets) ≡ part_header octets
 no_header_at octets len fits said none =
     no_header_parted octets fits (λ es rest e short.
-      let count : get_or octets 0 0 ≡ length (elements es) = ap (λ (t : List ℕ). get_or t 0 0) e in
-      none es (ap (take len) e ∙ take_at (header es) rest len (omega (arith, said, count))))
+    let count : get_or octets 0 0 ≡ length (elements es) = ap (λ (t : List ℕ). get_or t 0 0) e in
+    none es (ap (take len) e ∙ take_at (header es) rest len (omega (arith, said, count))))
 
 abbrev fronted : List ℕ → List ℕ → List ℕ × List ℕ
 fronted front text = (front, text)

@@ -1,5 +1,5 @@
 -- Octets are the characters of ISO-8859-1.
-use Rattle.std.proofs.Common.{◌≡◌, ℕ, ◌<◌, true, List, [], ◌∷◌, ◌++◌, get_or, chars, encode_utf8_all, refl, arith}
+use Rattle.std.proofs.Common.{◌≡◌, ℕ, ◌<◌, true, List, [], ◌∷◌, chars, encode_utf8_all, refl, arith}
 use Rattle.std.proofs.Math.Utf8.{scalars}
 use lib.Utf8.{low_scalar}
 use Rattle.std.proofs.lemmas.Str.{chars-encodes}

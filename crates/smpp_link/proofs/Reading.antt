@@ -1,20 +1,17 @@
 -- What is read of octets is what their command is heard as.
-use Rattle.std.proofs.Common.{◌≡◌, ℕ, ◌≤◌, List, [], ◌++◌, length, take, min, Result, Ok, Err, IfOk, refl, sym, ap, subst, ◌∙◌, arith}
+use Rattle.std.proofs.Common.{◌≡◌, ℕ, ◌≤◌, List, ◌++◌, length, Result, Ok, Err, IfOk, refl, sym, ap, subst, ◌∙◌, arith}
 use Rattle.std.proofs.lemmas.List.{length-take}
 use Rattle.kn_base.specs.declared.memory.Memory.{Memory}
-use Rattle.exact_octets.specs.Fronts.{Begins, IsProperFront, BreaksOffAt}
-use Rattle.smpp_wire.specs.declared.frame.Frame.{Frame}
+use Rattle.exact_octets.specs.Fronts.{IsProperFront, BreaksOffAt}
 use Rattle.smpp_wire.specs.declared.frame.Frame.TheVariants as answer
 use Rattle.smpp_wire.specs.declared.pdu.Pdu.{Pdu}
-use Rattle.smpp_wire.specs.Command.{Command, command_of}
-use Rattle.smpp_wire.specs.Grammar.{IsCommand, frame}
+use Rattle.smpp_wire.specs.Command.{command_of}
 use Rattle.smpp_wire.specs.Grammar.{IsFrame as IsWireFrame}
-use Rattle.smpp_wire.specs.Answers.{refused}
 use Rattle.smpp_wire.specs.Answers.{IsReadAs as IsFramedAs}
 use Rattle.link_core.specs.declared.heard.Heard.{Heard}
 use Rattle.link_core.specs.declared.framed.Framed.{Framed}
 use Rattle.link_core.specs.declared.framed.Framed.TheVariants as framed
-use Rattle.link_core.specs.Grammar.{IsFrame, IsReadAs, IsGrammar}
+use Rattle.link_core.specs.Grammar.{IsFrame, IsReadAs}
 use Rattle.link_core.proofs.Streams.{none_comes}
 use Rattle.smpp_link.specs.Hearing.{heard_of, Hears, Refuses}
 use Rattle.smpp_link.proofs.Commands.{smpp_grammar}
@@ -71,9 +68,10 @@ more_read octets r = record {
 
 pub bad_read : (octets : List ℕ) (at code : ℕ) → IsFramedAs octets (answer.Bad at code) → IsReadAs Hears Refuses octets (framed.Bad at code)
 bad_read octets at code r = record {
-  told =
-      (none_comes (IsFrame Hears) (λ x y behind behind' is is' e. (smpp_grammar.one x y behind behind' is.0 is'.0 is.1 is'.1 e).0) octets r.told.0 (breaks_from octets r.told.0 r.told.1),
-        record { seen = r.told.0; off = r.told.1; place = r.told.2 });
+  told = (
+    none_comes (IsFrame Hears) (λ x y behind behind' is is' e. (smpp_grammar.one x y behind behind' is.0 is'.0 is.1 is'.1 e).0) octets r.told.0 (breaks_from octets r.told.0 r.told.1),
+    record { seen = r.told.0; off = r.told.1; place = r.told.2 },
+  );
   whole = λ x rest said h parts. absurd (r.whole h.command rest h.good (parts ∙ ap (λ (t : List ℕ). t ++ rest) h.frame_is));
   need_more = λ front. let other = r.need_more (front_to octets front) in absurd cc;
   bad = λ at' code' refuses.

@@ -3,7 +3,7 @@ use Rattle.std.specs.Prelude.{ℕ, ◌/◌, ◌%◌, Bool, ◌==◌, ◌||◌, n
 use Rattle.std.specs.List.{flat_map}
 use Rattle.exact_octets.specs.declared.read_fault.ReadFault.{ReadFault}
 use Rattle.sms_record.specs.declared.coding.Coding.{Coding}
-use Rattle.sms_record.specs.declared.coding.Coding.TheVariants.{Seven, Eight}
+use Rattle.sms_record.specs.declared.coding.Coding.TheVariants.{Eight}
 use Rattle.sms_record.specs.declared.limits.TheConstants.{MOST_HEADER}
 use Rattle.sms_record.specs.declared.sms.Sms.{Sms}
 use Rattle.sms_record.specs.Header.{Element, header}
@@ -62,7 +62,7 @@ is_international ton = ton == 1
 abbrev pub sms_with : MessageFields → List ℕ × List ℕ → Sms
 sms_with m parts =
     arrival_of (address_of (is_international m.source_ton) m.source) (address_of (is_international m.destination_ton) m.destination)
-      (coding_of m.data_coding) (class_in m.data_coding) parts.0 (body_of (coding_of m.data_coding) (text_of m.data_coding parts.1))
+    (coding_of m.data_coding) (class_in m.data_coding) parts.0 (body_of (coding_of m.data_coding) (text_of m.data_coding parts.1))
 
 abbrev pub sms_of : MessageFields → Sms
 sms_of m = sms_with m (header_and_text m.esm_class m.short_message)

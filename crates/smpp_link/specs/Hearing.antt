@@ -3,7 +3,7 @@ use Rattle.std.specs.Prelude.{◌≡◌, ℕ, Bool, ◌==◌, ◌||◌, List, []
 use Rattle.exact_octets.specs.Fronts.{BreaksOffAt}
 use Rattle.smpp_wire.specs.declared.frame.Frame.TheVariants as answer
 use Rattle.smpp_wire.specs.declared.command.TheConstants.{GENERIC_NACK, SUBMIT_SM_RESP, DELIVER_SM, DELIVER_SM_RESP, UNBIND, UNBIND_RESP, BIND_TRANSCEIVER_RESP, ENQUIRE_LINK, ENQUIRE_LINK_RESP}
-use Rattle.smpp_wire.specs.Command.{Fields, Message, SubmitReply, Command}
+use Rattle.smpp_wire.specs.Command.{Fields, SubmitReply, Command}
 use Rattle.smpp_wire.specs.Grammar.{IsCommand, frame, IsFrame}
 use Rattle.smpp_wire.specs.Answers.{refused}
 use Rattle.link_core.specs.declared.verdict.Verdict.{Verdict}

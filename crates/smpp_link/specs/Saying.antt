@@ -1,5 +1,5 @@
 -- Which command each thing is said by (SMPP 3.4, section 4).
-use Rattle.std.specs.Prelude.{ℕ, ◌+◌, ◌/◌, ◌%◌, ◌==◌, not, true, false, List, [], ◌∷◌, ◌++◌, codes, filter, length, if◌then◌else◌}
+use Rattle.std.specs.Prelude.{ℕ, ◌+◌, ◌/◌, ◌%◌, ◌==◌, not, true, false, List, [], ◌∷◌, ◌++◌, codes, filter, if◌then◌else◌}
 use Rattle.sms_record.specs.declared.address.Address.{Address}
 use Rattle.sms_record.specs.declared.address.Address.TheVariants.{Number, Text}
 use Rattle.sms_record.specs.declared.sms.Sms.{Sms}

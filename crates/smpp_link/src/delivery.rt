@@ -131,7 +131,12 @@ fn parties_of(
     Ok((sender, receiver))
 }
 
-fn contents_of(alloc: Global, data_coding: u8, header: &[u8], text: &[u8]) -> Result<(Octets, Octets), Memory>
+fn contents_of(
+    alloc: Global,
+    data_coding: u8,
+    header: &[u8],
+    text: &[u8],
+) -> Result<(Octets, Octets), Memory>
     ensures { IfOk result (λ contents. contents ≡ (header.now, body_of (spec.coding_of data_coding) (spec.text_of data_coding text.now))) }
 {
     let header = Octets::from_slice(alloc, header)?;

@@ -9,6 +9,7 @@ use std::alloc::Global;
 
 /// How many minutes an hour and a day have.
 const HOUR: u64 = 60;
+
 const DAY: u64 = 1_440;
 
 /// Puts two decimal digits last.
@@ -33,7 +34,12 @@ fn period_of(alloc: Global, minutes: u64) -> Result<Octets, Memory>
 }
 
 /// For how long a message is still worth sending, or nothing where no end was asked for.
-pub(crate) fn validity_of(alloc: Global, time: u64, validity: u32, now: u64) -> Result<Octets, Memory>
+pub(crate) fn validity_of(
+    alloc: Global,
+    time: u64,
+    validity: u32,
+    now: u64,
+) -> Result<Octets, Memory>
     requires asked { time ≤ now }
     requires early { now < 2 ^ 37 }
     requires most { validity ≤ 43200 }

@@ -66,7 +66,13 @@ pub(crate) fn write_out(alloc: Global, bind: &Body, out: &Out) -> Result<Octets,
             frame_of(alloc, DELIVER_SM_RESP, OK, *tag, &Body::DeliverReply)
         }
         Out::MessageReply { tag, good: false } => {
-            frame_of(alloc, DELIVER_SM_RESP, QUEUE_FULL, *tag, &Body::DeliverReply)
+            frame_of(
+                alloc,
+                DELIVER_SM_RESP,
+                QUEUE_FULL,
+                *tag,
+                &Body::DeliverReply,
+            )
         }
         Out::Keep { tag } => frame_of(alloc, ENQUIRE_LINK, OK, *tag, &Body::Nothing),
         Out::KeepReply { tag } => frame_of(alloc, ENQUIRE_LINK_RESP, OK, *tag, &Body::Nothing),

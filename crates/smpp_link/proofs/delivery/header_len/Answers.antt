@@ -1,4 +1,4 @@
-use Rattle.std.proofs.Common.{◌≡◌, Bool, true, false, Result, Ok, Err, IfOk, get_or, length, take, ◌+◌, sym, ap, ◌∙◌, arith, inl, inr}
+use Rattle.std.proofs.Common.{◌≡◌, false, Result, Ok, Err, IfOk, ◌+◌, sym, ap, ◌∙◌, arith, inl, inr}
 use Rattle.std.specs.Result.{is_err}
 use Rattle.std.proofs.lemmas.Bool.{false≢true}
 use Rattle.smpp_link.proofs.Headers.{no_octets_parted, no_header_by, no_header_at, header_there}
@@ -21,9 +21,9 @@ returns-then-len-octets-clause-parts c = no_header_by c.args.octets.now (λ i. o
 pub returns-then-is_err-clause-parts : goal.returns-then-is_err-clause-parts
 returns-then-is_err-clause-parts c =
     no_header_at c.args.octets.now (c.from-len.result + 1) (λ i. omega (arith, c.type_inv.octets i)) (omega arith)
-      (λ es e. false≢true (sym (ap is_err (c.read_udh.ensures.read es e)) ∙ sym c.is_err.ensures.value ∙ c.if-is_err.true))
+    (λ es e. false≢true (sym (ap is_err (c.read_udh.ensures.read es e)) ∙ sym c.is_err.ensures.value ∙ c.if-is_err.true))
 
 pub returns-clause-parts : goal.returns-clause-parts
 returns-clause-parts c =
     header_there c.args.octets.now (c.from-len.result + 1) (omega arith) (omega arith) (omega arith)
-      (said_well c.read_udh.result _ (sym c.is_err.ensures.value ∙ c.if-is_err.false) c.read_udh.ensures.ok)
+    (said_well c.read_udh.result _ (sym c.is_err.ensures.value ∙ c.if-is_err.false) c.read_udh.ensures.ok)
