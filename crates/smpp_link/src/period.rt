@@ -7,9 +7,9 @@ use kn_base::{Memory, Octets};
 use link_core::minutes_left;
 use std::alloc::Global;
 
-/// How many minutes an hour and a day have.
+/// How many minutes an hour has.
 const HOUR: u64 = 60;
-
+/// How many minutes a day has.
 const DAY: u64 = 1_440;
 
 /// Puts two decimal digits last.
