@@ -1,6 +1,8 @@
 //! What is said to a centre.
 
-ghost use Rattle.std.specs.Prelude.{◌≡◌, ◌<◌, ◌≤◌, ◌^◌, IfOk, length};
+ghost use Rattle.std.specs.Prelude.{◌≤◌, IfOk, length};
+ghost use Rattle.config_groups.specs.Ranges.{IsLogin};
+ghost use Rattle.route_rules.specs.declared.link_kind.LinkKind.TheVariants.{Smpp};
 ghost use Rattle.sms_record.specs.Record.{IsSms};
 
 use crate::octets_in;
@@ -20,7 +22,10 @@ const MOST_TYPE: usize = 12;
 const END_OF_TIME: u64 = 1 << 37;
 
 /// A link that logs in as `gate`, with the password `secret`.
-fn settings_of(alloc: Global, system_type: &[u8]) -> Result<LinkSettings, Memory> {
+fn settings_of(alloc: Global, system_type: &[u8]) -> Result<LinkSettings, Memory>
+    ensures login { IfOk result (λ settings. IsLogin Smpp settings.smsc_username settings.smsc_password) }
+    ensures system_type { IfOk result (λ settings. length settings.system_type ≤ 12) }
+{
     let smsc_username = Octets::from_slice(alloc, b"gate")?;
     let smsc_password = Octets::from_slice(alloc, b"secret")?;
     let system_type = Octets::from_slice(alloc, &system_type[..system_type.len().min(MOST_TYPE)])?;
