@@ -1,0 +1,4 @@
+pub mod Delivery
+pub mod Hearing
+pub mod Saying
+pub mod Tags
