@@ -1,0 +1,187 @@
+-- Where a session stands by the steps that led to it, and by what it wished last. The clauses of a session's steps cite these.
+use Rattle.std.specs.Prelude.{◌≡◌, ◌≢◌, ⊤, ℕ, ◌+◌, ◌<◌, ◌≤◌, Bool, true, List, [], ◌∷◌, ◌++◌, length, map, Option, Some, None, IfSome, MatchOption}
+use Rattle.gate_entries.specs.declared.passing.Passing.{Passing}
+use Rattle.gate_entries.specs.declared.passing.Passing.TheVariants.{Up, Returned}
+use Rattle.gate_entries.specs.declared.recorded.Recorded.{Recorded}
+use Rattle.link_core.specs.Streams.{AreFrames}
+use Rattle.link_core.specs.declared.heard.Heard.{Heard}
+use Rattle.link_core.specs.declared.out.Out.{Out}
+use Rattle.link_core.specs.declared.out.Out.TheVariants as out_is
+use Rattle.sms_record.specs.declared.sms.Sms.{Sms}
+use Rattle.link_turn.specs.Steps.{Step, hears, says, records, passes, takes, leaves, heards_in, times_in}
+use Rattle.link_turn.specs.Back.{open_login, in_use, held, is_up, last_said, found_none, before_end, without_any, IsFree, IsAmong}
+use Rattle.link_turn.specs.Due.{Due, nothing, come_up, acknowledge, reject, give_back, send, say, over, due, due_by_said, answer_to, entry_for}
+use Rattle.link_turn.specs.Session.{Talk, no_talk, messages, Rests, IsNew}
+use Rattle.link_turn.specs.Talk.{AreSteps, AreReadings, IsCause}
+use Rattle.link_turn.specs.declared.end_cause.EndCause.{EndCause}
+use Rattle.link_turn.specs.declared.end_cause.EndCause.TheVariants as end_is
+use Rattle.link_turn.specs.declared.session.Phase.{Phase}
+use Rattle.link_turn.specs.declared.session.Phase.TheVariants.{Fresh, Listening, ComingUp, GivingBack, Taking, Leaving, Done}
+use Rattle.link_turn.specs.declared.session.Phase.TheVariants as phase_is
+use Rattle.link_turn.specs.declared.session.Recording.{Recording}
+use Rattle.link_turn.specs.declared.session.Recording.TheVariants as recording_is
+use Rattle.link_turn.specs.declared.session.Saying.{Saying}
+use Rattle.link_turn.specs.declared.session.Saying.TheVariants as saying_is
+use Rattle.link_turn.specs.declared.session.Session.{Session}
+use Rattle.link_turn.specs.declared.submitted.Asked.{Asked}
+use Rattle.link_turn.specs.declared.submitted.Submitted.{Submitted}
+use Rattle.link_turn.specs.declared.terms.Terms.{Terms}
+use Rattle.link_turn.specs.declared.wish.Wish.{Wish}
+use Rattle.link_turn.specs.declared.wish.Wish.TheVariants as wish_is
+
+-- no two have the same tag, or are the same message
+abbrev pub AreApart : List Submitted → Type 0
+AreApart [] = ⊤
+AreApart (submitted ∷ uses) = IsFree submitted.asked.tag uses × (¬ IsAmong submitted.message (messages uses)) × AreApart uses
+
+-- a list of readings ends with this one
+abbrev pub IsLast : (now : ℕ) → (readings : List ℕ) → Type 0
+IsLast now readings = (before : List ℕ) × (readings ≡ before ++ now ∷ [])
+
+-- a talk with one more step
+abbrev pub with_step : Step → Talk → Talk
+with_step step talk = record talk { steps = step ∷ talk.steps }
+
+-- frames that were handled behind steps, the newest first
+abbrev pub handled : List Heard → List Step → List Step
+handled [] steps = steps
+handled (heard ∷ before) steps = hears heard ∷ handled before steps
+
+abbrev pub with_handled : List Heard → Talk → Talk
+with_handled heards talk = record talk { steps = handled heards talk.steps }
+
+-- the message that is said
+abbrev pub message_said : Saying → Option ℕ
+message_said (saying_is.Login tag) = None
+message_said (saying_is.Submit tag message) = Some message
+message_said saying_is.Answer = None
+message_said saying_is.Farewell = None
+message_said saying_is.Keep = None
+
+-- the message that is being said in a phase
+abbrev pub message_in : Phase → Option ℕ
+message_in (phase_is.Saying saying) = message_said saying
+message_in Fresh = None
+message_in Listening = None
+message_in (phase_is.Recording recording) = None
+message_in ComingUp = None
+message_in (GivingBack message) = None
+message_in Taking = None
+message_in (Leaving cause one) = None
+message_in Done = None
+
+-- the message that is ended
+abbrev pub message_ended : Recording → Option ℕ
+message_ended (recording_is.End message) = Some message
+message_ended (recording_is.Report tag) = None
+message_ended (recording_is.Message tag) = None
+
+module _ {C : Type 0} (hears_so : List ℕ → Heard → Type 0) (refuses : List ℕ → ℕ → ℕ → Type 0) (said : C → Out → List ℕ) (core : C) (terms : Terms) where
+  -- What a session keeps is what the steps come to.
+  pub record Keeps (talk : Talk) (session : Session C) : Type 0 where
+    pub core_is : session.core ≡ core
+    pub terms_are : session.terms ≡ terms
+    pub each : AreSteps terms talk.steps
+    pub timed : AreReadings (times_in talk.steps) talk.readings
+    pub latest : IsLast session.now talk.readings
+    pub used : session.in_use.items ≡ in_use talk.steps
+    pub asked : session.login ≡ open_login talk.steps
+    pub is_up : session.up ≡ is_up talk.steps
+    pub spoke : session.last_said ≡ last_said talk.steps
+    pub found : session.searched ≡ true → found_none talk.steps ≡ true
+    pub staying : before_end talk.steps ≡ talk.steps
+    pub apart : AreApart session.in_use.items
+
+  -- what was heard is the frames that were handled, and what the session keeps
+  abbrev pub Frames : Talk → Session C → Type 0
+  Frames talk session = AreFrames hears_so talk.heard (heards_in talk.steps) session.kept
+
+  -- the messages that are held are those that have tags, and this one, if there is one
+  pub record Holds (one : Option ℕ) (talk : Talk) (session : Session C) : Type 0 where
+    pub others : without_any one (held talk.steps) ≡ messages session.in_use.items
+    pub among : IfSome one (λ message. IsAmong message (held talk.steps))
+
+  -- nothing is due
+  pub record IsReady (talk : Talk) (session : Session C) : Type 0 where
+    pub keeps : Keeps talk session
+    pub holds : Holds None talk session
+    pub nothing_due : due talk.steps ≡ nothing
+    pub whole : talk.cut ≡ []
+
+  -- this is due
+  pub record Owes (owed : Due) (one : Option ℕ) (talk : Talk) (session : Session C) : Type 0 where
+    pub keeps : Keeps talk session
+    pub holds : Holds one talk session
+    pub due_is : due talk.steps ≡ owed
+    pub whole : talk.cut ≡ []
+
+  -- it leaves, and holds these messages still, and one without a tag, if there is one
+  pub record IsLeaving (cause : EndCause) (one : Option ℕ) (talk : Talk) (session : Session C) : Type 0 where
+    pub core_is : session.core ≡ core
+    pub terms_are : session.terms ≡ terms
+    pub each : AreSteps terms talk.steps
+    pub timed : AreReadings (times_in talk.steps) talk.readings
+    pub frames : Frames talk session
+    pub holds : Holds one talk session
+    pub apart : AreApart session.in_use.items
+    pub is_up : session.up ≡ is_up talk.steps
+    pub caused : IsCause hears_so refuses (said core) terms cause (before_end talk.steps) session.kept talk.cut
+
+  -- it is over
+  pub record IsOver (cause : EndCause) (talk : Talk) (session : Session C) : Type 0 where
+    pub core_is : session.core ≡ core
+    pub terms_are : session.terms ≡ terms
+    pub each : AreSteps terms talk.steps
+    pub timed : AreReadings (times_in talk.steps) talk.readings
+    pub frames : Frames talk session
+    pub none_held : held talk.steps ≡ []
+    pub is_down : is_up talk.steps ≡ false
+    pub caused : IsCause hears_so refuses (said core) terms cause (before_end talk.steps) session.kept talk.cut
+
+  -- what is being said, by what is due
+  abbrev pub IsToSay : Saying → Out → Talk → (now : ℕ) → Type 0
+  IsToSay (saying_is.Login tag) out talk now = (out ≡ out_is.Login tag) × (talk.steps ≡ [])
+  IsToSay (saying_is.Submit tag message) out talk now =
+      (sms : Sms) × (out ≡ out_is.Submit tag message sms now) × (due talk.steps ≡ send message sms) × IsFree tag (in_use talk.steps)
+      × (length (in_use talk.steps) < terms.window)
+  IsToSay saying_is.Answer out talk now = (due talk.steps ≡ say out) × (due_by_said out ≡ nothing)
+  IsToSay saying_is.Farewell out talk now = (tag : ℕ) × (out ≡ out_is.ByeReply tag) × (due talk.steps ≡ say out)
+  IsToSay saying_is.Keep out talk now =
+      (tag : ℕ) × (out ≡ out_is.Keep tag) × (due talk.steps ≡ nothing) × IsFree tag (in_use talk.steps)
+      × (terms.keepalive ≢ 0) × (last_said talk.steps + terms.keepalive ≤ now)
+
+  -- what is being recorded, by the newest frame
+  abbrev pub IsToRecord : Recording → List Step → Type 0
+  IsToRecord (recording_is.End message) (hears heard ∷ before) = answer_to heard ≡ nothing
+  IsToRecord (recording_is.Report tag) (hears heard ∷ before) = answer_to heard ≡ say (out_is.ReportReply tag)
+  IsToRecord (recording_is.Message tag) (hears heard ∷ before) = answer_to heard ≡ say (out_is.MessageReply tag true)
+  IsToRecord recording steps = ⊥
+
+  -- Where a session stands that wished something, by the talk so far.
+  abbrev pub StandsIn : Phase → Wish → Talk → Session C → Type 0
+  StandsIn Fresh wish talk session = (wish ≡ wish_is.Listen) × (talk ≡ no_talk) × IsNew core terms session
+  StandsIn Listening wish talk session = (wish ≡ wish_is.Listen) × IsReady talk session × Frames talk session × Rests terms session.now talk.steps
+  StandsIn (phase_is.Saying saying) wish talk session =
+      (out : Out) × (wish ≡ wish_is.Say (said core out)) × Keeps talk session × Holds (message_said saying) talk session
+      × Frames talk session × IsToSay saying out talk session.now × (talk.cut ≡ [])
+  StandsIn (phase_is.Recording recording) wish talk session =
+      (kept : Recorded) × (wish ≡ wish_is.Perform kept) × (entry_for terms.link terms.smsc (due talk.steps) session.now ≡ Some kept)
+      × Keeps talk session × Holds (message_ended recording) talk session × Frames talk session × IsToRecord recording talk.steps × (talk.cut ≡ [])
+  StandsIn ComingUp wish talk session = (wish ≡ wish_is.Pass (Up terms.link)) × Owes come_up None talk session × Frames talk session
+  StandsIn (GivingBack message) wish talk session =
+      (wish ≡ wish_is.Pass (Returned message)) × Owes (give_back message) (Some message) talk session × Frames talk session
+  StandsIn Taking wish talk session = (wish ≡ wish_is.TakeNext session.now) × IsReady talk session × Frames talk session × (is_up talk.steps ≡ true)
+  StandsIn (Leaving cause one) wish talk session = (brief : Passing) × (wish ≡ wish_is.Pass brief) × IsLeaving cause one (with_step (leaves brief) talk) session
+  StandsIn Done wish talk session = (cause : EndCause) × (wish ≡ wish_is.Over cause) × IsOver cause talk session
+
+  abbrev pub Stands : Wish → Talk → Session C → Type 0
+  Stands wish talk session = StandsIn session.phase wish talk session
+
+  -- the same, behind some more frames
+  abbrev pub StandsBehind : Wish → Talk → Session C → Type 0
+  StandsBehind wish talk session = (heards : List Heard) × Stands wish (with_handled heards talk) session
+
+  -- where a session stands that dealt with a frame: nothing is due behind it, or it wished something
+  abbrev pub StandsThen : Option Wish → Talk → Session C → Type 0
+  StandsThen None talk session = IsReady talk session × Frames talk session
+  StandsThen (Some wish) talk session = Stands wish talk session

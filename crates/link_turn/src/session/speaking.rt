@@ -1,0 +1,107 @@
+//! A session says something.
+
+ghost use Rattle.std.specs.Prelude.{◌≡◌};
+ghost use Rattle.std.specs.List.{list_any};
+ghost use Rattle.link_core.specs.Saying.{MaySay, out_tag};
+ghost use Rattle.link_turn.specs.Back.{IsFree, has_tag};
+ghost use Rattle.link_turn.specs.Session as spec;
+
+use super::{Phase, Saying, Session};
+use crate::submitted::{Asked, Submitted};
+use crate::{EndCause, Wish};
+use link_core::{LinkCore, Out};
+use kn_base::Memory;
+
+impl<C: LinkCore> Session<C> {
+    // Says the login.
+    pub(super) fn begin(&mut self) -> Wish
+        requires well { spec.IsWell C.tags C.next_tag self.old }
+        ensures wished { spec.IsWished C.tags C.next_tag C.holds C.hears C.most result self.new }
+    {
+        let tag = self.take_tag();
+        self.say(&Out::Login { tag }, Saying::Login { tag }, None)
+    }
+
+    // Asks whether the centre is there.
+    pub(super) fn ask(&mut self) -> Wish
+        requires well { spec.IsWell C.tags C.next_tag self.old }
+        ensures wished { spec.IsWished C.tags C.next_tag C.holds C.hears C.most result self.new }
+    {
+        let tag = self.take_tag();
+        self.say(&Out::Keep { tag }, Saying::Keep, None)
+    }
+
+    // Says something; `held` is the message that it is.
+    pub(super) fn say(&mut self, out: &Out, saying: Saying, held: Option<u64>) -> Wish
+        requires well { spec.IsWell C.tags C.next_tag self.old }
+        requires may { MaySay C.kind C.hears out.now }
+        requires tag { C.holds (out_tag out.now) }
+        requires room { spec.IsPhase C.holds (Phase.Saying saying) self.old }
+        ensures wished { spec.IsWished C.tags C.next_tag C.holds C.hears C.most result self.new }
+    {
+        match self.core.write(self.alloc, out) {
+            Ok(octets) => {
+                self.phase = Phase::Saying(saying);
+                Wish::Say(octets)
+            }
+            Err(Memory) => self.end(EndCause::Memory, held),
+        }
+    }
+
+    // It was said whole.
+    pub(super) fn said(&mut self) -> Wish
+        requires session { spec.IsSession C.tags C.next_tag C.holds self.old }
+        ensures wished { spec.IsWished C.tags C.next_tag C.holds C.hears C.most result self.new }
+    {
+        self.last_said = self.now;
+        match self.phase {
+            Phase::Saying(Saying::Login { tag }) => {
+                self.login = Some(Asked { tag, said: self.now });
+                self.look()
+            }
+            Phase::Saying(Saying::Submit { tag, message }) => self.submitted(tag, message),
+            Phase::Saying(Saying::Farewell) => self.end(EndCause::Bye, None),
+            _ => self.look(),
+        }
+    }
+
+    // A message was said whole.
+    fn submitted(&mut self, tag: u32, message: u64) -> Wish
+        requires well { spec.IsWell C.tags C.next_tag self.old }
+        requires room { spec.HasRoom self.old }
+        ensures wished { spec.IsWished C.tags C.next_tag C.holds C.hears C.most result self.new }
+    {
+        let asked = Asked { tag, said: self.now };
+        match self.in_use.push(Submitted { message, asked }) {
+            Ok(()) => self.look(),
+            Err(_) => self.end(EndCause::Memory, Some(message)),
+        }
+    }
+
+    // The next tag that isn't in use.
+    pub(super) fn take_tag(&mut self) -> u32
+        requires well { spec.IsWell C.tags C.next_tag self.old }
+        ensures same { self.new ≡ record self.old { last_tag = self.new.last_tag } }
+        ensures well { spec.IsWell C.tags C.next_tag self.new }
+        ensures holds { C.holds result }
+        ensures free { IsFree result self.new.in_use.items }
+    {
+        for _ in 0..self.in_use.len() {
+            let tag = self.core.next_tag(self.last_tag);
+            self.last_tag = Some(tag);
+            if !self.is_in_use(tag) {
+                return tag;
+            }
+        }
+        let tag = self.core.next_tag(self.last_tag);
+        self.last_tag = Some(tag);
+        tag
+    }
+
+    // Whether a message has the tag.
+    fn is_in_use(&self, tag: u32) -> bool
+        ensures { result ≡ list_any (has_tag tag) self.now.in_use.items }
+    {
+        self.in_use.iter().any(|submitted| submitted.asked.tag == tag)
+    }
+}
