@@ -1,3 +1,9 @@
 pub mod Uses
 pub mod Readings
 pub mod Pigeons
+pub mod Keeping
+pub mod Leaving
+pub mod Speaking
+pub mod Handling
+pub mod Answering
+pub mod Looking

@@ -1,8 +1,12 @@
 //! A session is answered by the store.
 
-ghost use Rattle.std.specs.Prelude.{◌≡◌};
 ghost use Rattle.link_core.specs.Saying.{IsSubmit};
 ghost use Rattle.link_turn.specs.Due as due;
+ghost use Rattle.link_turn.specs.SessionSteps as steps;
+ghost use Rattle.link_turn.specs.Steps as step;
+ghost use Rattle.gate_entries.specs.declared.recorded.Recorded.{Recorded};
+ghost use Rattle.gate_entries.specs.declared.passing.Passing.{Passing};
+ghost use Rattle.std.specs.Prelude.{◌≡◌, ℕ};
 ghost use Rattle.link_turn.specs.Session as spec;
 
 use super::{Phase, Recording, Saying, Session};
@@ -28,6 +32,7 @@ impl<C: LinkCore> Session<C> {
     pub(super) fn answered(&mut self, outcome: Result<Reply, Refusal>) -> Wish
         requires session { spec.IsSession C.tags C.next_tag C.holds self.old }
         ensures wished { spec.IsWished C.tags C.next_tag C.holds C.hears C.most result self.new }
+        ensures law { steps.Always (λ core terms talk. (kept : Recorded) → steps.WasRecorded C.hears C.refuses C.said core terms kept talk self.old → steps.StandsBehind C.hears C.refuses C.said core terms result (steps.with_step (step.records kept outcome) talk) self.new) }
     {
         match self.phase {
             Phase::Recording(Recording::End { message }) => self.ended(message, outcome),
@@ -41,6 +46,7 @@ impl<C: LinkCore> Session<C> {
     fn ended(&mut self, message: u64, outcome: Result<Reply, Refusal>) -> Wish
         requires well { spec.IsWell C.tags C.next_tag self.old }
         ensures wished { spec.IsWished C.tags C.next_tag C.holds C.hears C.most result self.new }
+        ensures law { steps.Always (λ core terms talk. (kept : Recorded) → steps.Records C.hears C.refuses C.said core terms (Recording.End message) kept talk self.old → steps.StandsBehind C.hears C.refuses C.said core terms result (steps.with_step (step.records kept outcome) talk) self.new) }
     {
         match outcome {
             Ok(_) => self.look(),
@@ -53,6 +59,7 @@ impl<C: LinkCore> Session<C> {
         requires well { spec.IsWell C.tags C.next_tag self.old }
         requires tag { C.holds tag }
         ensures wished { spec.IsWished C.tags C.next_tag C.holds C.hears C.most result self.new }
+        ensures law { steps.Always (λ core terms talk. (kept : Recorded) → steps.Records C.hears C.refuses C.said core terms (Recording.Report tag) kept talk self.old → steps.StandsBehind C.hears C.refuses C.said core terms result (steps.with_step (step.records kept outcome) talk) self.new) }
     {
         match outcome {
             Ok(_) => self.answer(&Out::ReportReply { tag }),
@@ -65,6 +72,7 @@ impl<C: LinkCore> Session<C> {
         requires well { spec.IsWell C.tags C.next_tag self.old }
         requires tag { C.holds tag }
         ensures wished { spec.IsWished C.tags C.next_tag C.holds C.hears C.most result self.new }
+        ensures law { steps.Always (λ core terms talk. (kept : Recorded) → steps.Records C.hears C.refuses C.said core terms (Recording.Message tag) kept talk self.old → steps.StandsBehind C.hears C.refuses C.said core terms result (steps.with_step (step.records kept outcome) talk) self.new) }
     {
         match outcome {
             Ok(_) => self.answer(&Out::MessageReply { tag, good: true }),
@@ -77,6 +85,7 @@ impl<C: LinkCore> Session<C> {
     pub(super) fn passed(&mut self) -> Wish
         requires well { spec.IsWell C.tags C.next_tag self.old }
         ensures wished { spec.IsWished C.tags C.next_tag C.holds C.hears C.most result self.new }
+        ensures law { steps.Always (λ core terms talk. (brief : Passing) → steps.HasPassedIn C.hears C.refuses C.said core terms self.old.phase brief talk self.old → steps.StandsBehind C.hears C.refuses C.said core terms result (steps.with_step (steps.passed_step self.old.phase brief) talk) self.new) }
     {
         match self.phase {
             Phase::Leaving { cause, held } => self.leave(cause, held),
@@ -94,6 +103,7 @@ impl<C: LinkCore> Session<C> {
         requires room { spec.HasRoom self.old }
         requires given { spec.MayBeGiven C.kind self.old.now self.old.in_use.items outcome }
         ensures wished { spec.IsWished C.tags C.next_tag C.holds C.hears C.most result self.new }
+        ensures law { steps.Always (λ core terms talk. (time : ℕ) → steps.WasTaken C.hears C.refuses C.said core terms time talk self.old → steps.StandsBehind C.hears C.refuses C.said core terms result (steps.with_step (step.takes time outcome) talk) self.new) }
     {
         match outcome {
             Ok(Some(taken)) => self.given(taken),
@@ -111,6 +121,7 @@ impl<C: LinkCore> Session<C> {
         requires room { spec.HasRoom self.old }
         requires given { spec.MayBeGiven C.kind self.old.now self.old.in_use.items (Ok (Some taken)) }
         ensures wished { spec.IsWished C.tags C.next_tag C.holds C.hears C.most result self.new }
+        ensures law { steps.Always (λ core terms talk. (time : ℕ) → steps.WasTaken C.hears C.refuses C.said core terms time talk self.old → steps.StandsBehind C.hears C.refuses C.said core terms result (steps.with_step (step.takes time (Ok (Some taken))) talk) self.new) }
     {
         match taken {
             Taken::Send { message, sms } => self.submit(message, sms),
@@ -124,6 +135,7 @@ impl<C: LinkCore> Session<C> {
         requires room { spec.HasRoom self.old }
         requires submit { IsSubmit C.kind message sms self.old.now }
         ensures wished { spec.IsWished C.tags C.next_tag C.holds C.hears C.most result self.new }
+        ensures law { steps.Always (λ core terms talk. (time : ℕ) → steps.WasTaken C.hears C.refuses C.said core terms time talk self.old → steps.StandsBehind C.hears C.refuses C.said core terms result (steps.with_step (step.takes time (Ok (Some (Taken.Send message sms)))) talk) self.new) }
     {
         let tag = self.take_tag();
         let out = Out::Submit {

@@ -25,6 +25,7 @@ impl<C: LinkCore> Session<C> {
     pub(super) fn end(&mut self, cause: EndCause, held: Option<u64>) -> Wish
         requires well { spec.IsWell C.tags C.next_tag self.old }
         ensures wished { spec.IsWished C.tags C.next_tag C.holds C.hears C.most result self.new }
+        ensures law { steps.Always (λ core terms talk. steps.Ends C.hears C.refuses C.said core terms cause held talk self.old → steps.Stands C.hears C.refuses C.said core terms result talk self.new) }
     {
         self.phase = Phase::Leaving { cause, held };
         self.leave(cause, held)
@@ -34,6 +35,7 @@ impl<C: LinkCore> Session<C> {
     pub(super) fn broken(&mut self, cause: EndCause) -> Wish
         requires well { spec.IsWell C.tags C.next_tag self.old }
         ensures wished { spec.IsWished C.tags C.next_tag C.holds C.hears C.most result self.new }
+        ensures law { steps.Always (λ core terms talk. steps.Ends C.hears C.refuses C.said core terms cause (steps.message_in self.old.phase) talk self.old → steps.Stands C.hears C.refuses C.said core terms result talk self.new) }
     {
         let held = message_in(self.phase);
         self.end(cause, held)
@@ -44,6 +46,7 @@ impl<C: LinkCore> Session<C> {
         requires well { spec.IsWell C.tags C.next_tag self.old }
         requires phase { self.old.phase ≡ Phase.Leaving cause held }
         ensures wished { spec.IsWished C.tags C.next_tag C.holds C.hears C.most result self.new }
+        ensures law { steps.Always (λ core terms talk. steps.IsLeaving C.hears C.refuses C.said core terms cause held talk self.old → steps.Stands C.hears C.refuses C.said core terms result talk self.new) }
     {
         if let Some(message) = held {
             self.phase = Phase::Leaving { cause, held: None };

@@ -1,9 +1,12 @@
 //! A session deals with a frame.
 
-ghost use Rattle.std.specs.Prelude.{◌≡◌, IfOk};
+ghost use Rattle.std.specs.Prelude.{◌≡◌, ℕ, IfOk};
 ghost use Rattle.link_core.specs.Heard.{IsSound, IsSoundVerdict, IsShort, IsArrival, heard_tag};
 ghost use Rattle.link_core.specs.Saying.{CanHear, MaySay, out_tag};
 ghost use Rattle.link_turn.specs.Back.{message_under, without_tag};
+ghost use Rattle.link_turn.specs.SessionSteps as steps;
+ghost use Rattle.link_turn.specs.Steps as step;
+ghost use Rattle.link_turn.specs.Due as due;
 ghost use Rattle.link_turn.specs.Session as spec;
 
 use super::{Phase, Recording, Saying, Session};
@@ -21,6 +24,7 @@ impl<C: LinkCore> Session<C> {
         requires tag { C.holds (heard_tag heard) }
         requires sound { IsSound heard }
         ensures wished { spec.IsWishedThen C.tags C.next_tag C.holds C.hears C.most result self.new }
+        ensures law { steps.Always (λ core terms talk. steps.Faces C.hears C.refuses C.said core terms (heard) talk self.old → steps.StandsThen C.hears C.refuses C.said core terms result (steps.with_step (step.hears (heard)) talk) self.new) }
     {
         match heard {
             Heard::Login { tag, code } => self.logged_in(tag, code),
@@ -48,6 +52,7 @@ impl<C: LinkCore> Session<C> {
         requires may { MaySay C.kind C.hears out.now }
         requires tag { C.holds (out_tag out.now) }
         ensures wished { spec.IsWished C.tags C.next_tag C.holds C.hears C.most result self.new }
+        ensures law { steps.Always (λ core terms talk. steps.Owes C.hears C.refuses C.said core terms (due.say out.now) None talk self.old → steps.Frames C.hears C.refuses C.said core terms talk self.old → steps.IsAnswer out.now → steps.Stands C.hears C.refuses C.said core terms result talk self.new) }
     {
         self.say(out, Saying::Answer, None)
     }
@@ -56,6 +61,7 @@ impl<C: LinkCore> Session<C> {
     fn logged_in(&mut self, tag: u32, code: u32) -> Option<Wish>
         requires well { spec.IsWell C.tags C.next_tag self.old }
         ensures wished { spec.IsWishedThen C.tags C.next_tag C.holds C.hears C.most result self.new }
+        ensures law { steps.Always (λ core terms talk. steps.Faces C.hears C.refuses C.said core terms (Heard.Login tag code) talk self.old → steps.StandsThen C.hears C.refuses C.said core terms result (steps.with_step (step.hears (Heard.Login tag code)) talk) self.new) }
     {
         match self.login {
             Some(asked) if asked.tag == tag => {
@@ -70,6 +76,7 @@ impl<C: LinkCore> Session<C> {
     fn come_up(&mut self, code: u32) -> Wish
         requires well { spec.IsWell C.tags C.next_tag self.old }
         ensures wished { spec.IsWished C.tags C.next_tag C.holds C.hears C.most result self.new }
+        ensures law { steps.Always (λ core terms talk. steps.Owes C.hears C.refuses C.said core terms (due.due_by_code code) None talk self.old → steps.Frames C.hears C.refuses C.said core terms talk self.old → steps.Stands C.hears C.refuses C.said core terms result talk self.new) }
     {
         if code != 0 {
             return self.end(EndCause::LoginRefused { code }, None);
@@ -85,6 +92,7 @@ impl<C: LinkCore> Session<C> {
         requires well { spec.IsWell C.tags C.next_tag self.old }
         requires sound { IsSoundVerdict verdict }
         ensures wished { spec.IsWishedThen C.tags C.next_tag C.holds C.hears C.most result self.new }
+        ensures law { steps.Always (λ core terms talk. steps.Faces C.hears C.refuses C.said core terms (Heard.Reply tag verdict) talk self.old → steps.StandsThen C.hears C.refuses C.said core terms result (steps.with_step (step.hears (Heard.Reply tag verdict)) talk) self.new) }
     {
         let message = self.take_answered(tag)?;
         Some(match verdict {
@@ -98,6 +106,7 @@ impl<C: LinkCore> Session<C> {
     fn nacked(&mut self, tag: u32) -> Option<Wish>
         requires well { spec.IsWell C.tags C.next_tag self.old }
         ensures wished { spec.IsWishedThen C.tags C.next_tag C.holds C.hears C.most result self.new }
+        ensures law { steps.Always (λ core terms talk. (code : ℕ) → steps.Faces C.hears C.refuses C.said core terms (Heard.Nack tag code) talk self.old → steps.StandsThen C.hears C.refuses C.said core terms result (steps.with_step (step.hears (Heard.Nack tag code)) talk) self.new) }
     {
         let message = self.take_answered(tag)?;
         Some(self.give_back(message))
@@ -119,6 +128,7 @@ impl<C: LinkCore> Session<C> {
     fn give_back(&mut self, message: u64) -> Wish
         requires well { spec.IsWell C.tags C.next_tag self.old }
         ensures wished { spec.IsWished C.tags C.next_tag C.holds C.hears C.most result self.new }
+        ensures law { steps.Always (λ core terms talk. steps.Owes C.hears C.refuses C.said core terms (due.give_back message) (Some message) talk self.old → steps.Frames C.hears C.refuses C.said core terms talk self.old → steps.Stands C.hears C.refuses C.said core terms result talk self.new) }
     {
         self.phase = Phase::GivingBack { message };
         Wish::Pass(Passing::Returned { message })
@@ -129,6 +139,7 @@ impl<C: LinkCore> Session<C> {
         requires well { spec.IsWell C.tags C.next_tag self.old }
         requires short { IsShort foreign }
         ensures wished { spec.IsWished C.tags C.next_tag C.holds C.hears C.most result self.new }
+        ensures law { steps.Always (λ core terms talk. steps.Owes C.hears C.refuses C.said core terms (due.acknowledge message foreign) (Some message) talk self.old → steps.Frames C.hears C.refuses C.said core terms talk self.old → steps.IsToRecord C.hears C.refuses C.said core terms (Recording.End message) talk.steps → steps.Stands C.hears C.refuses C.said core terms result talk self.new) }
     {
         let Ok(smsc) = self.smsc() else {
             return self.end(EndCause::Memory, Some(message));
@@ -146,6 +157,7 @@ impl<C: LinkCore> Session<C> {
     fn reject(&mut self, message: u64, code: u32) -> Wish
         requires well { spec.IsWell C.tags C.next_tag self.old }
         ensures wished { spec.IsWished C.tags C.next_tag C.holds C.hears C.most result self.new }
+        ensures law { steps.Always (λ core terms talk. steps.Owes C.hears C.refuses C.said core terms (due.reject message code) (Some message) talk self.old → steps.Frames C.hears C.refuses C.said core terms talk self.old → steps.IsToRecord C.hears C.refuses C.said core terms (Recording.End message) talk.steps → steps.Stands C.hears C.refuses C.said core terms result talk self.new) }
     {
         let Ok(smsc) = self.smsc() else {
             return self.end(EndCause::Memory, Some(message));
@@ -165,6 +177,7 @@ impl<C: LinkCore> Session<C> {
         requires tag { C.holds tag }
         requires sound { IsSound (Heard.Report tag foreign kind text) }
         ensures wished { spec.IsWished C.tags C.next_tag C.holds C.hears C.most result self.new }
+        ensures law { steps.Always (λ core terms talk. steps.Owes C.hears C.refuses C.said core terms (due.report foreign kind text) None talk self.old → steps.Frames C.hears C.refuses C.said core terms talk self.old → steps.IsToRecord C.hears C.refuses C.said core terms (Recording.Report tag) talk.steps → steps.Stands C.hears C.refuses C.said core terms result talk self.new) }
     {
         let Ok(smsc) = self.smsc() else {
             return self.end(EndCause::Memory, None);
@@ -185,6 +198,7 @@ impl<C: LinkCore> Session<C> {
         requires tag { C.holds tag }
         requires sound { IsArrival sms }
         ensures wished { spec.IsWished C.tags C.next_tag C.holds C.hears C.most result self.new }
+        ensures law { steps.Always (λ core terms talk. steps.Owes C.hears C.refuses C.said core terms (due.arrive sms) None talk self.old → steps.Frames C.hears C.refuses C.said core terms talk self.old → steps.IsToRecord C.hears C.refuses C.said core terms (Recording.Message tag) talk.steps → steps.Stands C.hears C.refuses C.said core terms result talk self.new) }
     {
         let (Ok(smsc), Ok(own)) = (self.smsc(), self.smsc()) else {
             return self.end(EndCause::Memory, None);

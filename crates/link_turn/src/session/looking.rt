@@ -3,6 +3,7 @@
 ghost use Rattle.std.specs.Prelude.{◌≡◌, ◌↔◌, ◌≤◌, ◌-◌, ◌&&◌, not, nat_lt, nat_le, IsTrue, IfSome, OnNone, drop, length};
 ghost use Rattle.exact_octets.specs.Fronts.{IsProperFront};
 ghost use Rattle.link_core.specs.Grammar.{IsFrame, IsGrammar};
+ghost use Rattle.link_turn.specs.SessionSteps as steps;
 ghost use Rattle.link_turn.specs.Session as spec;
 
 use super::{Phase, Session};
@@ -17,6 +18,7 @@ impl<C: LinkCore> Session<C> {
     pub(super) fn hear(&mut self, octets: &[u8]) -> Wish
         requires well { spec.IsWell C.tags C.next_tag self.old }
         ensures wished { spec.IsWished C.tags C.next_tag C.holds C.hears C.most result self.new }
+        ensures law { steps.Always (λ core terms talk. steps.Heeds C.hears C.refuses C.said core terms octets.now talk self.old → steps.StandsBehind C.hears C.refuses C.said core terms result (talk) self.new) }
     {
         self.searched = false;
         match self.kept.extend_from_slice(octets) {
@@ -29,6 +31,7 @@ impl<C: LinkCore> Session<C> {
     pub(super) fn quiet(&mut self) -> Wish
         requires well { spec.IsWell C.tags C.next_tag self.old }
         ensures wished { spec.IsWished C.tags C.next_tag C.holds C.hears C.most result self.new }
+        ensures law { steps.Always (λ core terms talk. steps.IsReady C.hears C.refuses C.said core terms talk self.old → steps.Frames C.hears C.refuses C.said core terms talk self.old → steps.StandsBehind C.hears C.refuses C.said core terms result (talk) self.new) }
     {
         self.searched = false;
         self.look()
@@ -38,6 +41,7 @@ impl<C: LinkCore> Session<C> {
     pub(super) fn look(&mut self) -> Wish
         requires well { spec.IsWell C.tags C.next_tag self.old }
         ensures wished { spec.IsWished C.tags C.next_tag C.holds C.hears C.most result self.new }
+        ensures law { steps.Always (λ core terms talk. steps.IsReady C.hears C.refuses C.said core terms talk self.old → steps.Frames C.hears C.refuses C.said core terms talk self.old → steps.StandsBehind C.hears C.refuses C.said core terms result (talk) self.new) }
     {
         loop {
             match self.core.read(self.alloc, self.kept.as_slice()) {
@@ -74,6 +78,7 @@ impl<C: LinkCore> Session<C> {
         requires front { IsProperFront (IsFrame C.hears) self.old.kept }
         requires grammar { IsGrammar C.hears C.holds C.most }
         ensures wished { spec.IsWished C.tags C.next_tag C.holds C.hears C.most result self.new }
+        ensures law { steps.Always (λ core terms talk. steps.IsReady C.hears C.refuses C.said core terms talk self.old → steps.Frames C.hears C.refuses C.said core terms talk self.old → steps.Stands C.hears C.refuses C.said core terms result talk self.new) }
     {
         if let Some(asked) = self.overdue() {
             let cause = EndCause::NoReply {

@@ -1,9 +1,13 @@
 //! A session says something.
 
-ghost use Rattle.std.specs.Prelude.{◌≡◌};
 ghost use Rattle.std.specs.List.{list_any};
 ghost use Rattle.link_core.specs.Saying.{MaySay, out_tag};
 ghost use Rattle.link_turn.specs.Back.{IsFree, has_tag};
+ghost use Rattle.link_turn.specs.SessionSteps as steps;
+ghost use Rattle.link_turn.specs.Steps as step;
+ghost use Rattle.sms_record.specs.declared.sms.Sms.{Sms};
+ghost use Rattle.link_core.specs.declared.out.Out.{Out as Sayings};
+ghost use Rattle.std.specs.Prelude.{◌≡◌, ℕ};
 ghost use Rattle.link_turn.specs.Session as spec;
 
 use super::{Phase, Saying, Session};
@@ -17,6 +21,7 @@ impl<C: LinkCore> Session<C> {
     pub(super) fn begin(&mut self) -> Wish
         requires well { spec.IsWell C.tags C.next_tag self.old }
         ensures wished { spec.IsWished C.tags C.next_tag C.holds C.hears C.most result self.new }
+        ensures law { steps.Always (λ core terms talk. steps.Begins C.hears C.refuses C.said core terms talk self.old → steps.Stands C.hears C.refuses C.said core terms result talk self.new) }
     {
         let tag = self.take_tag();
         self.say(&Out::Login { tag }, Saying::Login { tag }, None)
@@ -26,6 +31,7 @@ impl<C: LinkCore> Session<C> {
     pub(super) fn ask(&mut self) -> Wish
         requires well { spec.IsWell C.tags C.next_tag self.old }
         ensures wished { spec.IsWished C.tags C.next_tag C.holds C.hears C.most result self.new }
+        ensures law { steps.Always (λ core terms talk. steps.IsReady C.hears C.refuses C.said core terms talk self.old → steps.Frames C.hears C.refuses C.said core terms talk self.old → steps.WasSilent C.hears C.refuses C.said core terms self.old → steps.Stands C.hears C.refuses C.said core terms result talk self.new) }
     {
         let tag = self.take_tag();
         self.say(&Out::Keep { tag }, Saying::Keep, None)
@@ -37,7 +43,9 @@ impl<C: LinkCore> Session<C> {
         requires may { MaySay C.kind C.hears out.now }
         requires tag { C.holds (out_tag out.now) }
         requires room { spec.IsPhase C.holds (Phase.Saying saying) self.old }
+        requires held { held ≡ steps.message_said saying }
         ensures wished { spec.IsWished C.tags C.next_tag C.holds C.hears C.most result self.new }
+        ensures law { steps.Always (λ core terms talk. steps.Speaks C.hears C.refuses C.said core terms saying out.now talk self.old → steps.Stands C.hears C.refuses C.said core terms result talk self.new) }
     {
         match self.core.write(self.alloc, out) {
             Ok(octets) => {
@@ -52,6 +60,7 @@ impl<C: LinkCore> Session<C> {
     pub(super) fn said(&mut self) -> Wish
         requires session { spec.IsSession C.tags C.next_tag C.holds self.old }
         ensures wished { spec.IsWished C.tags C.next_tag C.holds C.hears C.most result self.new }
+        ensures law { steps.Always (λ core terms talk. (out : Sayings) → steps.WasSaid C.hears C.refuses C.said core terms out talk self.old → steps.StandsBehind C.hears C.refuses C.said core terms result (steps.with_step (step.says out self.old.now) talk) self.new) }
     {
         self.last_said = self.now;
         match self.phase {
@@ -70,6 +79,7 @@ impl<C: LinkCore> Session<C> {
         requires well { spec.IsWell C.tags C.next_tag self.old }
         requires room { spec.HasRoom self.old }
         ensures wished { spec.IsWished C.tags C.next_tag C.holds C.hears C.most result self.new }
+        ensures law { steps.Always (λ core terms talk. (sms : Sms) → (time : ℕ) → steps.WasSubmitted C.hears C.refuses C.said core terms tag message sms time talk self.old → steps.StandsBehind C.hears C.refuses C.said core terms result (steps.with_step (step.says (Out.Submit tag message sms time) self.old.now) talk) self.new) }
     {
         let asked = Asked { tag, said: self.now };
         match self.in_use.push(Submitted { message, asked }) {
