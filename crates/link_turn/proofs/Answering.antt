@@ -272,7 +272,7 @@ module _ {C : Type 0} (hears_so : List ℕ → Heard → Type 0) (refuses : List
       }
 
   taken_keeps : (time : ℕ) (outcome : Result (Option Taken) Refusal) (talk : Talk) (s t : Session C) → WasTaken hears_so refuses said core terms time talk s → t.core ≡ s.core → t.terms ≡ s.terms
-      → t.up ≡ s.up → t.now ≡ s.now → t.last_said ≡ s.last_said → t.in_use.items ≡ s.in_use.items → t.login ≡ s.login → (t.searched ≡ true → is_nothing outcome ≡ true)
+      → t.up ≡ s.up → t.latest ≡ s.latest → t.last_said ≡ s.last_said → t.in_use.items ≡ s.in_use.items → t.login ≡ s.login → (t.searched ≡ true → is_nothing outcome ≡ true)
       → Keeps hears_so refuses said core terms (with_step (takes time outcome) talk) t
   taken_keeps time outcome talk s t w ce te ue ne se ie le found =
       let k = w.ready.keeps in record {
@@ -287,7 +287,7 @@ module _ {C : Type 0} (hears_so : List ℕ → Heard → Type 0) (refuses : List
 
   -- none was found
   pub taken_none : (time : ℕ) (talk : Talk) (s t : Session C) → WasTaken hears_so refuses said core terms time talk s → t.core ≡ s.core → t.terms ≡ s.terms
-      → t.up ≡ s.up → t.now ≡ s.now → t.last_said ≡ s.last_said → t.in_use.items ≡ s.in_use.items → t.login ≡ s.login
+      → t.up ≡ s.up → t.latest ≡ s.latest → t.last_said ≡ s.last_said → t.in_use.items ≡ s.in_use.items → t.login ≡ s.login
       → IsReady hears_so refuses said core terms (with_step (takes time (Ok None)) talk) t
   taken_none time talk s t w ce te ue ne se ie le = record {
     keeps = taken_keeps time (Ok None) talk s t w ce te ue ne se ie le (λ yes. refl);
@@ -323,7 +323,7 @@ module _ {C : Type 0} (hears_so : List ℕ → Heard → Type 0) (refuses : List
   -- it is said
   pub taken_speaks : (time tag message : ℕ) (sms : Sms) (talk : Talk) (s t : Session C) → WasTaken hears_so refuses said core terms time talk s → AreAlike s t → t.in_use.items ≡ s.in_use.items
       → t.login ≡ s.login → t.kept ≡ s.kept → ¬ IsAmong message (messages s.in_use.items) → IsFree tag t.in_use.items → length s.in_use.items < s.terms.window
-      → Speaks hears_so refuses said core terms (saying_is.Submit tag message) (out_is.Submit tag message sms t.now) (with_step (takes time (Ok (Some (taken.Send message sms)))) talk) t
+      → Speaks hears_so refuses said core terms (saying_is.Submit tag message) (out_is.Submit tag message sms t.latest) (with_step (takes time (Ok (Some (taken.Send message sms)))) talk) t
   taken_speaks time tag message sms talk s t w like ie le ke none free room =
       let k = w.ready.keeps in
       let new : Step = takes time (Ok (Some (taken.Send message sms))) in

@@ -134,20 +134,20 @@ module _ {C : Type 0} (hears_so : List ℕ → Heard → Type 0) (refuses : List
   -- an entry is recorded
   pub records_then : (recording : Recording) (kept : Recorded) (owed : Due) (talk : Talk) (s t : Session C) (wish : Wish) → Owes hears_so refuses said core terms owed (message_ended recording) talk s
       → Frames hears_so refuses said core terms talk s → IsToRecord hears_so refuses said core terms recording talk.steps → AreAlike s t → t.in_use.items ≡ s.in_use.items → t.login ≡ s.login
-      → t.kept ≡ s.kept → t.phase ≡ phase_is.Recording recording → wish ≡ wish_is.Perform kept → entry_for s.terms.link s.terms.smsc owed s.now ≡ Some kept
-      → times_of_entry kept ≡ s.now ∷ [] → ended_by kept ≡ message_ended recording → Stands hears_so refuses said core terms wish talk t
+      → t.kept ≡ s.kept → t.phase ≡ phase_is.Recording recording → wish ≡ wish_is.Perform kept → entry_for s.terms.link s.terms.smsc owed s.latest ≡ Some kept
+      → times_of_entry kept ≡ s.latest ∷ [] → ended_by kept ≡ message_ended recording → Stands hears_so refuses said core terms wish talk t
   records_then recording kept owed talk s t wish o f to like ie le ke pe we entry times ends =
       let k = o.keeps in
-      let is : entry_for terms.link terms.smsc (due talk.steps) s.now ≡ Some kept =
-      ap (λ (d : Due). entry_for terms.link terms.smsc d s.now) o.due_is
-      ∙ ap (λ (x : Terms). entry_for x.link x.smsc owed s.now) (sym k.agrees.terms_are) ∙ entry in
+      let is : entry_for terms.link terms.smsc (due talk.steps) s.latest ≡ Some kept =
+      ap (λ (d : Due). entry_for terms.link terms.smsc d s.latest) o.due_is
+      ∙ ap (λ (x : Terms). entry_for x.link x.smsc owed s.latest) (sym k.agrees.terms_are) ∙ entry in
       let timed : AreReadings (times_in talk.steps ++ times_of_entry kept) talk.readings =
-      subst (λ (ts : List ℕ). AreReadings (times_in talk.steps ++ ts) talk.readings) (sym times) (timed_now (times_in talk.steps) talk.readings s.now k.agrees.timed k.latest) in
+      subst (λ (ts : List ℕ). AreReadings (times_in talk.steps ++ ts) talk.readings) (sym times) (timed_now (times_in talk.steps) talk.readings s.latest k.agrees.timed k.latest) in
       let records : Records hears_so refuses said core terms recording kept talk t = record {
         keeps = keeps_same hears_so refuses said core terms talk s t like ie le k;
         holds = holds_same hears_so refuses said core terms (message_ended recording) talk s t ie o.holds;
         frames = frames_then talk s t ke f;
-        time = s.now;
+        time = s.latest;
         entry = is;
         timed = timed;
         to_record = to;

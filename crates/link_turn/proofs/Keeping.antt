@@ -23,7 +23,7 @@ pub record AreAlike {C : Type 0} (s t : Session C) : Type 0 where
   pub core : t.core ≡ s.core
   pub terms : t.terms ≡ s.terms
   pub up : t.up ≡ s.up
-  pub now : t.now ≡ s.now
+  pub now : t.latest ≡ s.latest
   pub spoke : t.last_said ≡ s.last_said
   pub found : t.searched ≡ true → s.searched ≡ true
 

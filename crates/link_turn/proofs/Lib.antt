@@ -7,3 +7,5 @@ pub mod Speaking
 pub mod Handling
 pub mod Answering
 pub mod Looking
+pub mod Going
+pub mod Checks

@@ -113,14 +113,14 @@ module _ {C : Type 0} (hears_so : List ℕ → Heard → Type 0) (refuses : List
       ]
 
   pub too_late : (asked : Asked) (talk : Talk) (s : Session C) → IsReady hears_so refuses said core terms talk s → Frames hears_so refuses said core terms talk s → ¬ HasFirst (IsFrame hears_so) s.kept
-      → Waits s asked → IsLate s asked → Ends hears_so refuses said core terms (end_is.NoReply asked.tag asked.said s.now) None talk s
+      → Waits s asked → IsLate s asked → Ends hears_so refuses said core terms (end_is.NoReply asked.tag asked.said s.latest) None talk s
   too_late asked talk s r f none waits late =
       let k = r.keeps in
-      let over : asked.said + terms.wait_ack < s.now = subst (λ (x : Terms). asked.said + x.wait_ack < s.now) k.agrees.terms_are late in
-      ends_idle (end_is.NoReply asked.tag asked.said s.now) talk s r f (idle_here talk s r none, unanswered asked talk s k waits, over)
+      let over : asked.said + terms.wait_ack < s.latest = subst (λ (x : Terms). asked.said + x.wait_ack < s.latest) k.agrees.terms_are late in
+      ends_idle (end_is.NoReply asked.tag asked.said s.latest) talk s r f (idle_here talk s r none, unanswered asked talk s k waits, over)
 
   pub takes_so : (talk : Talk) (s t : Session C) (wish : Wish) → IsReady hears_so refuses said core terms talk s → Frames hears_so refuses said core terms talk s → AreAlike s t
-      → t.in_use.items ≡ s.in_use.items → t.login ≡ s.login → t.kept ≡ s.kept → t.phase ≡ Taking → s.up ≡ true → t.searched ≡ false → wish ≡ wish_is.TakeNext t.now
+      → t.in_use.items ≡ s.in_use.items → t.login ≡ s.login → t.kept ≡ s.kept → t.phase ≡ Taking → s.up ≡ true → t.searched ≡ false → wish ≡ wish_is.TakeNext t.latest
       → Stands hears_so refuses said core terms wish talk t
   takes_so talk s t wish r f like ie le ke pe up no we =
       subst (λ (p : Phase). StandsIn hears_so refuses said core terms p wish talk t) (sym pe)
@@ -129,24 +129,24 @@ module _ {C : Type 0} (hears_so : List ℕ → Heard → Type 0) (refuses : List
 
   pub listens_so : (talk : Talk) (s t : Session C) (wish : Wish) → IsReady hears_so refuses said core terms talk s → Frames hears_so refuses said core terms talk s → AreAlike s t
       → t.in_use.items ≡ s.in_use.items → t.login ≡ s.login → t.kept ≡ s.kept → t.phase ≡ Listening → wish ≡ wish_is.Listen → NoneIsLate s
-      → (s.up ≡ true → (length s.in_use.items ≡ s.terms.window) ⊎ (s.searched ≡ true)) → (s.up ≡ true → (s.terms.keepalive ≡ 0) ⊎ (s.now < s.last_said + s.terms.keepalive))
+      → (s.up ≡ true → (length s.in_use.items ≡ s.terms.window) ⊎ (s.searched ≡ true)) → (s.up ≡ true → (s.terms.keepalive ≡ 0) ⊎ (s.latest < s.last_said + s.terms.keepalive))
       → Stands hears_so refuses said core terms wish talk t
   listens_so talk s t wish r f like ie le ke pe we none taken silence =
       let k = r.keeps in
       let te = k.agrees.terms_are in
       let up : is_up talk.steps ≡ true → s.up ≡ true = λ e. k.agrees.is_up ∙ e in
-      let rests : Rests terms s.now talk.steps = record {
+      let rests : Rests terms s.latest talk.steps = record {
         taken = λ e. elim (taken (up e)) [
           | inl full ↦ inl (sym (ap (λ (us : List Submitted). length us) k.used) ∙ full ∙ ap (λ (x : Terms). x.window) te)
           | inr yes ↦ inr (k.found yes)
         ];
-        login = subst (λ (l : Option Asked). IfSome l (λ asked. s.now ≤ asked.said + terms.wait_ack)) k.asked
-            (subst (λ (x : Terms). IfSome s.login (λ asked. s.now ≤ asked.said + x.wait_ack)) te none.login);
-        answers = subst (λ (us : List Submitted). All (λ submitted. s.now ≤ submitted.asked.said + terms.wait_ack) us) k.used
-            (subst (λ (x : Terms). All (λ submitted. s.now ≤ submitted.asked.said + x.wait_ack) s.in_use.items) te none.answers);
+        login = subst (λ (l : Option Asked). IfSome l (λ asked. s.latest ≤ asked.said + terms.wait_ack)) k.asked
+            (subst (λ (x : Terms). IfSome s.login (λ asked. s.latest ≤ asked.said + x.wait_ack)) te none.login);
+        answers = subst (λ (us : List Submitted). All (λ submitted. s.latest ≤ submitted.asked.said + terms.wait_ack) us) k.used
+            (subst (λ (x : Terms). All (λ submitted. s.latest ≤ submitted.asked.said + x.wait_ack) s.in_use.items) te none.answers);
         silence = λ e. elim (silence (up e)) [
           | inl never ↦ inl (sym (ap (λ (x : Terms). x.keepalive) te) ∙ never)
-          | inr soon ↦ inr (subst (λ (x : Terms). s.now < last_said talk.steps + x.keepalive) te (subst (λ (l : ℕ). s.now < l + s.terms.keepalive) k.spoke soon))
+          | inr soon ↦ inr (subst (λ (x : Terms). s.latest < last_said talk.steps + x.keepalive) te (subst (λ (l : ℕ). s.latest < l + s.terms.keepalive) k.spoke soon))
         ];
       } in
       subst (λ (p : Phase). StandsIn hears_so refuses said core terms p wish talk t) (sym pe)

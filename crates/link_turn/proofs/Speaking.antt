@@ -110,9 +110,9 @@ module _ {C : Type 0} (hears_so : List ℕ → Heard → Type 0) (refuses : List
       let k = r.keeps in
       let te = k.agrees.terms_are in
       let some : terms.keepalive ≢ 0 = λ e. w.some (ap (λ (x : Terms). x.keepalive) te ∙ e) in
-      let long : last_said talk.steps + terms.keepalive ≤ t.now =
+      let long : last_said talk.steps + terms.keepalive ≤ t.latest =
       subst (λ (now : ℕ). last_said talk.steps + terms.keepalive ≤ now) (sym like.now)
-      (subst (λ (x : Terms). last_said talk.steps + x.keepalive ≤ s.now) te (subst (λ (l : ℕ). l + s.terms.keepalive ≤ s.now) k.spoke w.long)) in
+      (subst (λ (x : Terms). last_said talk.steps + x.keepalive ≤ s.latest) te (subst (λ (l : ℕ). l + s.terms.keepalive ≤ s.latest) k.spoke w.long)) in
       let unused : IsFree tag (in_use talk.steps) = subst (IsFree tag) (ie ∙ k.used) free in record {
         keeps = keeps_same hears_so refuses said core terms talk s t like ie le k;
         holds = holds_same hears_so refuses said core terms None talk s t ie r.holds;
@@ -153,19 +153,19 @@ module _ {C : Type 0} (hears_so : List ℕ → Heard → Type 0) (refuses : List
   }
 
   -- nothing is due behind it
-  pub said_ready : (out : Out) (talk : Talk) (s t : Session C) (w : WasSaid hears_so refuses said core terms out talk s) → t.core ≡ s.core → t.terms ≡ s.terms → t.up ≡ s.up → t.now ≡ s.now
-      → (t.searched ≡ true → s.searched ≡ true) → t.last_said ≡ s.now → t.in_use.items ≡ s.in_use.items → uses_said out s.now s.in_use.items ≡ s.in_use.items
-      → t.login ≡ login_said out s.now s.login → due_by_said out ≡ nothing → message_said w.saying ≡ None → IsReady hears_so refuses said core terms (with_step (says out s.now) talk) t
+  pub said_ready : (out : Out) (talk : Talk) (s t : Session C) (w : WasSaid hears_so refuses said core terms out talk s) → t.core ≡ s.core → t.terms ≡ s.terms → t.up ≡ s.up → t.latest ≡ s.latest
+      → (t.searched ≡ true → s.searched ≡ true) → t.last_said ≡ s.latest → t.in_use.items ≡ s.in_use.items → uses_said out s.latest s.in_use.items ≡ s.in_use.items
+      → t.login ≡ login_said out s.latest s.login → due_by_said out ≡ nothing → message_said w.saying ≡ None → IsReady hears_so refuses said core terms (with_step (says out s.latest) talk) t
   said_ready out talk s t w ce te ue ne se ls ie us le is none =
       let k = w.keeps in
-      let may = may_be_said w.saying out talk w.before s.now w.to_say w.order in
+      let may = may_be_said w.saying out talk w.before s.latest w.to_say w.order in
       let holds : Holds hears_so refuses said core terms None talk s = subst (λ (o : Option ℕ). Holds hears_so refuses said core terms o talk s) none w.holds in record {
         keeps = record {
-          agrees = said_agrees out s.now talk s t k.agrees ce te ue (subst AreApart (sym ie) k.agrees.apart) may w.timed k.latest;
+          agrees = said_agrees out s.latest talk s t k.agrees ce te ue (subst AreApart (sym ie) k.agrees.apart) may w.timed k.latest;
           staying = refl;
           latest = subst (λ (now : ℕ). IsLast now talk.readings) (sym ne) k.latest;
-          used = ie ∙ sym us ∙ ap (uses_said out s.now) k.used;
-          asked = le ∙ ap (login_said out s.now) k.asked;
+          used = ie ∙ sym us ∙ ap (uses_said out s.latest) k.used;
+          asked = le ∙ ap (login_said out s.latest) k.asked;
           spoke = ls;
           found = λ yes. k.found (se yes);
         };
@@ -176,13 +176,13 @@ module _ {C : Type 0} (hears_so : List ℕ → Heard → Type 0) (refuses : List
 
   -- behind the answer to the end it is over
   pub said_farewell : (out : Out) (talk : Talk) (s t : Session C) (w : WasSaid hears_so refuses said core terms out talk s) → t.core ≡ s.core → t.terms ≡ s.terms → t.up ≡ s.up
-      → t.in_use.items ≡ s.in_use.items → w.saying ≡ saying_is.Farewell → Ends hears_so refuses said core terms end_is.Bye None (with_step (says out s.now) talk) t
+      → t.in_use.items ≡ s.in_use.items → w.saying ≡ saying_is.Farewell → Ends hears_so refuses said core terms end_is.Bye None (with_step (says out s.latest) talk) t
   said_farewell out talk s t w ce te ue ie is =
       let k = w.keeps in
-      let may = may_be_said w.saying out talk w.before s.now w.to_say w.order in
+      let may = may_be_said w.saying out talk w.before s.latest w.to_say w.order in
       let bye : IsToSay hears_so refuses said core terms saying_is.Farewell out talk w.before = subst (λ (x : Saying). IsToSay hears_so refuses said core terms x out talk w.before) is w.to_say in
       let holds : Holds hears_so refuses said core terms None talk s = subst (λ (x : Saying). Holds hears_so refuses said core terms (message_said x) talk s) is w.holds in record {
-        agrees = said_agrees out s.now talk s t k.agrees ce te ue (subst AreApart (sym ie) k.agrees.apart) may w.timed k.latest;
+        agrees = said_agrees out s.latest talk s t k.agrees ce te ue (subst AreApart (sym ie) k.agrees.apart) may w.timed k.latest;
         staying = refl;
         holds = record { others = holds.others ∙ ap messages (sym ie); among = tt };
         rest = s.kept;
@@ -192,7 +192,7 @@ module _ {C : Type 0} (hears_so : List ℕ → Heard → Type 0) (refuses : List
 
   -- ---- a message was said
 
-  pub was_submitted : (out : Out) (tag message : ℕ) (talk : Talk) (s t : Session C) (w : WasSaid hears_so refuses said core terms out talk s) → AreAlike (record s { last_said = s.now }) t
+  pub was_submitted : (out : Out) (tag message : ℕ) (talk : Talk) (s t : Session C) (w : WasSaid hears_so refuses said core terms out talk s) → AreAlike (record s { last_said = s.latest }) t
       → t.in_use.items ≡ s.in_use.items → t.login ≡ s.login → t.kept ≡ s.kept → w.saying ≡ saying_is.Submit tag message
       → (sms : Sms) × (time : ℕ) × (out ≡ out_is.Submit tag message sms time) × WasSubmitted hears_so refuses said core terms tag message sms time talk t
   was_submitted out tag message talk s t w like ie le ke is =
@@ -220,22 +220,22 @@ module _ {C : Type 0} (hears_so : List ℕ → Heard → Type 0) (refuses : List
       )
 
   submit_may : (tag message : ℕ) (sms : Sms) (time : ℕ) (talk : Talk) (s : Session C) → WasSubmitted hears_so refuses said core terms tag message sms time talk s
-      → MayCome terms (says (out_is.Submit tag message sms time) s.now) talk.steps
+      → MayCome terms (says (out_is.Submit tag message sms time) s.latest) talk.steps
   submit_may tag message sms time talk s w =
-      subst (ComesBy (out_is.Submit tag message sms time) s.now talk.steps) (sym w.due_is) (tag, time, refl, (w.free, w.room))
+      subst (ComesBy (out_is.Submit tag message sms time) s.latest talk.steps) (sym w.due_is) (tag, time, refl, (w.free, w.room))
 
   pub submitted_ready : (tag message : ℕ) (sms : Sms) (time : ℕ) (talk : Talk) (s t : Session C) → WasSubmitted hears_so refuses said core terms tag message sms time talk s → AreAlike s t
-      → t.login ≡ s.login → t.in_use.items ≡ s.in_use.items ++ record { message = message; asked = record { tag = tag; said = s.now } } ∷ []
-      → IsReady hears_so refuses said core terms (with_step (says (out_is.Submit tag message sms time) s.now) talk) t
+      → t.login ≡ s.login → t.in_use.items ≡ s.in_use.items ++ record { message = message; asked = record { tag = tag; said = s.latest } } ∷ []
+      → IsReady hears_so refuses said core terms (with_step (says (out_is.Submit tag message sms time) s.latest) talk) t
   submitted_ready tag message sms time talk s t w like le ie =
-      let one : Submitted = record { message = message; asked = record { tag = tag; said = s.now } } in
+      let one : Submitted = record { message = message; asked = record { tag = tag; said = s.latest } } in
       let free : IsFree tag s.in_use.items = subst (IsFree tag) (sym w.used) w.free in
       let none : ¬ IsAmong message (messages s.in_use.items) = subst (λ (ms : List ℕ). ¬ IsAmong message ms) w.holds.others (not_among_without message (held talk.steps)) in
       let apart : AreApart t.in_use.items = subst AreApart (sym ie) (apart-push s.in_use.items one w.agrees.apart free none) in
       let all : messages (in_use talk.steps) ++ message ∷ [] ≡ messages t.in_use.items =
       sym (ap messages (ie ∙ ap (λ (us : List Submitted). us ++ one ∷ []) w.used) ∙ map-append (λ (u : Submitted). u.message) (in_use talk.steps) (one ∷ [])) in record {
         keeps = record {
-          agrees = said_agrees (out_is.Submit tag message sms time) s.now talk s t w.agrees like.core like.terms like.up apart (submit_may tag message sms time talk s w) w.timed w.latest;
+          agrees = said_agrees (out_is.Submit tag message sms time) s.latest talk s t w.agrees like.core like.terms like.up apart (submit_may tag message sms time talk s w) w.timed w.latest;
           staying = refl;
           latest = subst (λ (now : ℕ). IsLast now talk.readings) (sym like.now) w.latest;
           used = ie ∙ ap (λ (us : List Submitted). us ++ one ∷ []) w.used;
@@ -249,9 +249,9 @@ module _ {C : Type 0} (hears_so : List ℕ → Heard → Type 0) (refuses : List
       }
 
   pub submitted_not : (tag message : ℕ) (sms : Sms) (time : ℕ) (talk : Talk) (s t : Session C) → WasSubmitted hears_so refuses said core terms tag message sms time talk s → AreAlike s t
-      → t.in_use.items ≡ s.in_use.items → Ends hears_so refuses said core terms end_is.Memory (Some message) (with_step (says (out_is.Submit tag message sms time) s.now) talk) t
+      → t.in_use.items ≡ s.in_use.items → Ends hears_so refuses said core terms end_is.Memory (Some message) (with_step (says (out_is.Submit tag message sms time) s.latest) talk) t
   submitted_not tag message sms time talk s t w like ie = record {
-    agrees = said_agrees (out_is.Submit tag message sms time) s.now talk s t w.agrees like.core like.terms like.up (subst AreApart (sym ie) w.agrees.apart)
+    agrees = said_agrees (out_is.Submit tag message sms time) s.latest talk s t w.agrees like.core like.terms like.up (subst AreApart (sym ie) w.agrees.apart)
         (submit_may tag message sms time talk s w) w.timed w.latest;
     staying = refl;
     holds = record { others = w.holds.others ∙ ap messages (sym ie); among = w.holds.among };

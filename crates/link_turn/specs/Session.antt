@@ -47,6 +47,13 @@ abbrev pub IsTag : (Option ℕ → ℕ) → Option ℕ → Type 0
 IsTag next None = ⊤
 IsTag next (Some tag) = (n : ℕ) × (tag ≡ nth_tag next n)
 
+-- a message that is taken is one that may be said at this reading, and isn't held yet
+abbrev pub MayBeGiven : LinkKind → (now : ℕ) → List Submitted → Result (Option Taken) Refusal → Type 0
+MayBeGiven kind now uses (Ok (Some (taken.Send message sms))) = IsSubmit kind message sms now × ¬ IsAmong message (messages uses)
+MayBeGiven kind now uses (Ok (Some (taken.Expired message))) = ⊤
+MayBeGiven kind now uses (Ok None) = ⊤
+MayBeGiven kind now uses (Err refusal) = ⊤
+
 module _ {C : Type 0} where
   abbrev pub terms_of : Session C → Terms
   terms_of session = session.terms
@@ -61,19 +68,19 @@ module _ {C : Type 0} where
 
   -- the last reading that it was given
   abbrev pub now_of : Session C → ℕ
-  now_of session = session.now
+  now_of session = session.latest
 
   -- A session that hasn't begun.
   pub record IsNew (core : C) (terms : Terms) (session : Session C) : Type 0 where
-    pub core : session.core ≡ core
-    pub terms : session.terms ≡ terms
+    pub core_is : session.core ≡ core
+    pub terms_are : session.terms ≡ terms
     pub kept : session.kept ≡ []
     pub none_used : session.in_use.items ≡ []
     pub none_asked : session.login ≡ None
     pub is_down : session.up ≡ false
     pub no_tag : session.last_tag ≡ None
     pub unsaid : session.last_said ≡ 0
-    pub unread : session.now ≡ 0
+    pub unread : session.latest ≡ 0
     pub unsearched : session.searched ≡ false
     pub phase : session.phase ≡ Fresh
 
@@ -99,7 +106,7 @@ module _ {C : Type 0} where
     pub enough : session.terms.window + 2 ≤ tags
     pub tag : IsTag next_tag session.last_tag
     pub smsc : length session.terms.smsc ≤ MOST_NAME
-    pub in_time : session.now < 2 ^ 37
+    pub in_time : session.latest < 2 ^ 37
 
   -- the same, and what holds in its phase
   pub record IsSession (tags : ℕ) (next_tag : Option ℕ → ℕ) (holds : ℕ → Type 0) (session : Session C) : Type 0 where
@@ -108,36 +115,26 @@ module _ {C : Type 0} where
 
   -- ---- what may be given
 
-  -- a message that is taken is one that may be said at this reading, and isn't held yet
-  abbrev pub MayBeGiven : LinkKind → (now : ℕ) → List Submitted → Result (Option Taken) Refusal → Type 0
-  MayBeGiven kind now uses (Ok (Some (taken.Send message sms))) = IsSubmit kind message sms now × ¬ IsAmong message (messages uses)
-  MayBeGiven kind now uses (Ok (Some (taken.Expired message))) = ⊤
-  MayBeGiven kind now uses (Ok None) = ⊤
-  MayBeGiven kind now uses (Err refusal) = ⊤
-
-  -- the phase in which something is given, by the wish before it
-  abbrev pub FitsPhase : LinkKind → (now : ℕ) → Session C → Phase → Given → Type 0
-  FitsPhase kind now session Fresh given_is.Begin = ⊤
-  FitsPhase kind now session Listening (given_is.Heard octets) = 0 < length octets
-  FitsPhase kind now session Listening given_is.Quiet = ⊤
-  FitsPhase kind now session Listening given_is.End = ⊤
-  FitsPhase kind now session Listening given_is.Fault = ⊤
-  FitsPhase kind now session Listening given_is.Starved = ⊤
-  FitsPhase kind now session Listening given_is.Stop = ⊤
-  FitsPhase kind now session (phase_is.Saying saying) given_is.Said = ⊤
-  FitsPhase kind now session (phase_is.Saying saying) given_is.SayFault = ⊤
-  FitsPhase kind now session (phase_is.Saying saying) given_is.Starved = ⊤
-  FitsPhase kind now session (phase_is.Recording recording) (given_is.Answered outcome) = ⊤
-  FitsPhase kind now session ComingUp given_is.Passed = ⊤
-  FitsPhase kind now session (GivingBack message) given_is.Passed = ⊤
-  FitsPhase kind now session (Leaving cause held) given_is.Passed = ⊤
-  FitsPhase kind now session Taking (given_is.Taken outcome) = MayBeGiven kind now session.in_use.items outcome
-  FitsPhase kind now session phase given = ⊥
+  -- the phase in which something is given: by the wish before it
+  abbrev pub FitsPhase : LinkKind → (now : ℕ) → Session C → Given → Type 0
+  FitsPhase kind now session given_is.Begin = session.phase ≡ Fresh
+  FitsPhase kind now session (given_is.Heard octets) = (session.phase ≡ Listening) × (0 < length octets)
+  FitsPhase kind now session given_is.Quiet = session.phase ≡ Listening
+  FitsPhase kind now session given_is.End = session.phase ≡ Listening
+  FitsPhase kind now session given_is.Fault = session.phase ≡ Listening
+  FitsPhase kind now session given_is.Said = (saying : Saying) × (session.phase ≡ phase_is.Saying saying)
+  FitsPhase kind now session given_is.SayFault = (saying : Saying) × (session.phase ≡ phase_is.Saying saying)
+  FitsPhase kind now session given_is.Starved = (session.phase ≡ Listening) ⊎ ((saying : Saying) × (session.phase ≡ phase_is.Saying saying))
+  FitsPhase kind now session (given_is.Answered outcome) = (recording : Recording) × (session.phase ≡ phase_is.Recording recording)
+  FitsPhase kind now session given_is.Passed =
+      (session.phase ≡ ComingUp) ⊎ ((message : ℕ) × (session.phase ≡ GivingBack message)) ⊎ ((cause : EndCause) × (one : Option ℕ) × (session.phase ≡ Leaving cause one))
+  FitsPhase kind now session (given_is.Taken outcome) = (session.phase ≡ Taking) × MayBeGiven kind now session.in_use.items outcome
+  FitsPhase kind now session given_is.Stop = session.phase ≡ Listening
 
   -- What is given comes of the last wish, at no earlier reading than the last one.
   pub record Fits (kind : LinkKind) (session : Session C) (given : Given) (now : ℕ) : Type 0 where
-    pub phase : FitsPhase kind now session session.phase given
-    pub order : session.now ≤ now
+    pub phase : FitsPhase kind now session given
+    pub order : session.latest ≤ now
     pub in_time : now < 2 ^ 37
 
   -- ---- listening
@@ -170,7 +167,7 @@ MayBeRecorded (wish_is.Over cause) = ⊤
 module _ {C : Type 0} where
   -- What a session is that wished something.
   pub record IsWished (tags : ℕ) (next_tag : Option ℕ → ℕ) (holds : ℕ → Type 0) (hears : List ℕ → Heard → Type 0) (most : ℕ) (wish : Wish) (session : Session C) : Type 0 where
-    pub session : IsSession tags next_tag holds session
+    pub sound : IsSession tags next_tag holds session
     pub listens : Listens hears most wish session
     pub entry : MayBeRecorded wish
 
@@ -181,7 +178,7 @@ module _ {C : Type 0} where
 
   -- something waits too long for its answer
   abbrev pub IsLate : Session C → Asked → Type 0
-  IsLate session asked = asked.said + session.terms.wait_ack < session.now
+  IsLate session asked = asked.said + session.terms.wait_ack < session.latest
 
   -- it waits for its answer
   abbrev pub Waits : Session C → Asked → Type 0
@@ -189,8 +186,8 @@ module _ {C : Type 0} where
 
   -- nothing waits too long
   pub record NoneIsLate (session : Session C) : Type 0 where
-    pub login : IfSome session.login (λ asked. session.now ≤ asked.said + session.terms.wait_ack)
-    pub answers : All (λ submitted. session.now ≤ submitted.asked.said + session.terms.wait_ack) session.in_use.items
+    pub login : IfSome session.login (λ asked. session.latest ≤ asked.said + session.terms.wait_ack)
+    pub answers : All (λ submitted. session.latest ≤ submitted.asked.said + session.terms.wait_ack) session.in_use.items
 
 -- ---- a talk so far
 

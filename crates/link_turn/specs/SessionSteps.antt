@@ -11,7 +11,8 @@ use Rattle.sms_record.specs.declared.sms.Sms.{Sms}
 use Rattle.link_turn.specs.Steps.{Step, hears, says, records, passes, takes, leaves, heards_in, times_in, times_of_entry, times_of_out}
 use Rattle.link_turn.specs.Back.{open_login, in_use, held, is_up, last_said, found_none, before_end, without_any, ended_by, IsFree, IsAmong}
 use Rattle.link_turn.specs.Due.{Due, nothing, come_up, acknowledge, reject, give_back, send, say, over, due, answer_to, entry_for}
-use Rattle.link_turn.specs.Session.{Talk, no_talk, messages, Rests, IsNew}
+use Rattle.link_turn.specs.Session.{Talk, no_talk, messages, Rests, IsNew, GoesOn}
+use Rattle.link_turn.specs.declared.given.Given.{Given}
 use Rattle.link_turn.specs.Talk.{AreSteps, AreReadings, IsCause}
 use Rattle.link_turn.specs.declared.end_cause.EndCause.{EndCause}
 use Rattle.link_turn.specs.declared.end_cause.EndCause.TheVariants as end_is
@@ -101,7 +102,7 @@ module _ {C : Type 0} (hears_so : List ℕ → Heard → Type 0) (refuses : List
   pub record Keeps (talk : Talk) (session : Session C) : Type 0 where
     pub agrees : Agrees talk session
     pub staying : before_end talk.steps ≡ talk.steps
-    pub latest : IsLast session.now talk.readings
+    pub latest : IsLast session.latest talk.readings
     pub used : session.in_use.items ≡ in_use talk.steps
     pub asked : session.login ≡ open_login talk.steps
     pub spoke : session.last_said ≡ last_said talk.steps
@@ -171,7 +172,7 @@ module _ {C : Type 0} (hears_so : List ℕ → Heard → Type 0) (refuses : List
     pub keeps : Keeps talk session
     pub holds : Holds (message_said saying) talk session
     pub frames : Frames talk session
-    pub to_say : IsToSay saying out talk session.now
+    pub to_say : IsToSay saying out talk session.latest
     pub whole : talk.cut ≡ []
 
   -- this is being recorded
@@ -189,13 +190,13 @@ module _ {C : Type 0} (hears_so : List ℕ → Heard → Type 0) (refuses : List
   -- Where a session stands that wished something, by the talk so far.
   abbrev pub StandsIn : Phase → Wish → Talk → Session C → Type 0
   StandsIn Fresh wish talk session = (wish ≡ wish_is.Listen) × (talk ≡ no_talk) × IsNew core terms session
-  StandsIn Listening wish talk session = (wish ≡ wish_is.Listen) × IsReady talk session × Frames talk session × Rests terms session.now talk.steps
+  StandsIn Listening wish talk session = (wish ≡ wish_is.Listen) × IsReady talk session × Frames talk session × Rests terms session.latest talk.steps
   StandsIn (phase_is.Saying saying) wish talk session = (out : Out) × (wish ≡ wish_is.Say (said core out)) × Speaks saying out talk session
   StandsIn (phase_is.Recording recording) wish talk session = (kept : Recorded) × (wish ≡ wish_is.Perform kept) × Records recording kept talk session
   StandsIn ComingUp wish talk session = (wish ≡ wish_is.Pass (Up terms.link)) × Owes come_up None talk session × Frames talk session
   StandsIn (GivingBack message) wish talk session =
       (wish ≡ wish_is.Pass (Returned message)) × Owes (give_back message) (Some message) talk session × Frames talk session
-  StandsIn Taking wish talk session = (wish ≡ wish_is.TakeNext session.now) × IsReady talk session × Frames talk session × (is_up talk.steps ≡ true) × (session.searched ≡ false)
+  StandsIn Taking wish talk session = (wish ≡ wish_is.TakeNext session.latest) × IsReady talk session × Frames talk session × (is_up talk.steps ≡ true) × (session.searched ≡ false)
   StandsIn (Leaving cause one) wish talk session = (brief : Passing) × (wish ≡ wish_is.Pass brief) × IsLeaving cause one (with_step (leaves brief) talk) session
   StandsIn Done wish talk session = (cause : EndCause) × (wish ≡ wish_is.Over cause) × IsOver cause talk session
 
@@ -243,7 +244,7 @@ module _ {C : Type 0} (hears_so : List ℕ → Heard → Type 0) (refuses : List
   -- it was silent for as long as may be
   pub record WasSilent (session : Session C) : Type 0 where
     pub some : session.terms.keepalive ≢ 0
-    pub long : session.last_said + session.terms.keepalive ≤ session.now
+    pub long : session.last_said + session.terms.keepalive ≤ session.latest
 
   -- something was said whole
   pub record WasSaid (out : Out) (talk : Talk) (session : Session C) : Type 0 where
@@ -254,7 +255,7 @@ module _ {C : Type 0} (hears_so : List ℕ → Heard → Type 0) (refuses : List
     pub frames : Frames talk session
     pub before : ℕ
     pub to_say : IsToSay saying out talk before
-    pub order : before ≤ session.now
+    pub order : before ≤ session.latest
     pub timed : AreReadings (times_in talk.steps ++ times_of_out out) talk.readings
     pub whole : talk.cut ≡ []
 
@@ -262,10 +263,10 @@ module _ {C : Type 0} (hears_so : List ℕ → Heard → Type 0) (refuses : List
   pub record WasSubmitted (tag message : ℕ) (sms : Sms) (time : ℕ) (talk : Talk) (session : Session C) : Type 0 where
     pub agrees : Agrees talk session
     pub staying : before_end talk.steps ≡ talk.steps
-    pub latest : IsLast session.now talk.readings
+    pub latest : IsLast session.latest talk.readings
     pub used : session.in_use.items ≡ in_use talk.steps
     pub asked : session.login ≡ open_login talk.steps
-    pub spoke : session.last_said ≡ session.now
+    pub spoke : session.last_said ≡ session.latest
     pub found : session.searched ≡ true → found_none talk.steps ≡ true
     pub holds : Holds (Some message) talk session
     pub frames : Frames talk session
@@ -294,6 +295,12 @@ module _ {C : Type 0} (hears_so : List ℕ → Heard → Type 0) (refuses : List
     pub up : is_up talk.steps ≡ true
     pub unsearched : session.searched ≡ false
     pub timed : AreReadings (times_in talk.steps ++ time ∷ []) talk.readings
+
+  -- where a session stands by what was given behind a wish: the talk goes on so
+  pub record StandsOn (wish : Wish) (given : Given) (now : ℕ) (cut : List ℕ) (talk : Talk) (next : Wish) (session : Session C) : Type 0 where
+    pub later : Talk
+    pub goes : GoesOn (said core) wish given now cut talk later
+    pub stands : Stands next later session
 
 -- the step by which something has passed
 abbrev pub passed_step : Phase → Passing → Step

@@ -1,8 +1,10 @@
 //! The session of one link by itself, without its peer and without the store.
 
-ghost use Rattle.std.specs.Prelude.{◌≡◌, ◌↔◌, ◌≤◌, ◌+◌, IsTrue, IfOk, length};
+ghost use Rattle.std.specs.Prelude.{◌≡◌, ◌↔◌, ◌≤◌, ◌+◌, ℕ, List, IsTrue, IfOk, length};
 ghost use Rattle.sms_record.specs.declared.limits.TheConstants.{MOST_NAME};
 ghost use Rattle.link_turn.specs.Session as spec;
+ghost use Rattle.link_turn.specs.SessionSteps as steps;
+ghost use Rattle.link_turn.specs.declared.wish.Wish.{Wish as Wishes};
 
 
 mod answering;
@@ -103,7 +105,7 @@ pub struct Session<C: LinkCore> {
     /// The reading by which something was said last.
     last_said: u64,
     /// The last reading that it was given.
-    now: u64,
+    latest: u64,
     /// The store has no message for it at the moment.
     searched: bool,
     phase: Phase,
@@ -146,7 +148,7 @@ impl<C: LinkCore> Session<C> {
             up: false,
             last_tag: None,
             last_said: 0,
-            now: 0,
+            latest: 0,
             searched: false,
             phase: Phase::Fresh,
         })
@@ -176,8 +178,9 @@ impl<C: LinkCore> Session<C> {
         ensures session { spec.IsSession C.tags C.next_tag C.holds self.new }
         ensures listens { spec.Listens C.hears C.most result self.new }
         ensures entry { spec.MayBeRecorded result }
+        ensures law { steps.Always (λ core terms talk. (wish : Wishes) → (cut : List ℕ) → steps.Stands C.hears C.refuses C.said core terms wish talk self.old → spec.MayBeCut wish given cut → steps.StandsOn C.hears C.refuses C.said core terms wish given now cut talk result self.new) }
     {
-        self.now = now;
+        self.latest = now;
         match given {
             Given::Begin => self.begin(),
             Given::Heard(octets) => self.hear(octets.as_slice()),

@@ -101,7 +101,7 @@ impl<C: LinkCore> Session<C> {
     pub(super) fn taken(&mut self, outcome: Result<Option<Taken>, Refusal>) -> Wish
         requires well { spec.IsWell C.tags C.next_tag self.old }
         requires room { spec.HasRoom self.old }
-        requires given { spec.MayBeGiven C.kind self.old.now self.old.in_use.items outcome }
+        requires given { spec.MayBeGiven C.kind self.old.latest self.old.in_use.items outcome }
         ensures wished { spec.IsWished C.tags C.next_tag C.holds C.hears C.most result self.new }
         ensures law { steps.Always (λ core terms talk. (time : ℕ) → steps.WasTaken C.hears C.refuses C.said core terms time talk self.old → steps.StandsBehind C.hears C.refuses C.said core terms result (steps.with_step (step.takes time outcome) talk) self.new) }
     {
@@ -119,7 +119,7 @@ impl<C: LinkCore> Session<C> {
     fn given(&mut self, taken: Taken) -> Wish
         requires well { spec.IsWell C.tags C.next_tag self.old }
         requires room { spec.HasRoom self.old }
-        requires given { spec.MayBeGiven C.kind self.old.now self.old.in_use.items (Ok (Some taken)) }
+        requires given { spec.MayBeGiven C.kind self.old.latest self.old.in_use.items (Ok (Some taken)) }
         ensures wished { spec.IsWished C.tags C.next_tag C.holds C.hears C.most result self.new }
         ensures law { steps.Always (λ core terms talk. (time : ℕ) → steps.WasTaken C.hears C.refuses C.said core terms time talk self.old → steps.StandsBehind C.hears C.refuses C.said core terms result (steps.with_step (step.takes time (Ok (Some taken))) talk) self.new) }
     {
@@ -133,7 +133,7 @@ impl<C: LinkCore> Session<C> {
     fn submit(&mut self, message: u64, sms: Sms) -> Wish
         requires well { spec.IsWell C.tags C.next_tag self.old }
         requires room { spec.HasRoom self.old }
-        requires submit { IsSubmit C.kind message sms self.old.now }
+        requires submit { IsSubmit C.kind message sms self.old.latest }
         ensures wished { spec.IsWished C.tags C.next_tag C.holds C.hears C.most result self.new }
         ensures law { steps.Always (λ core terms talk. (time : ℕ) → steps.WasTaken C.hears C.refuses C.said core terms time talk self.old → steps.StandsBehind C.hears C.refuses C.said core terms result (steps.with_step (step.takes time (Ok (Some (Taken.Send message sms)))) talk) self.new) }
     {
@@ -142,7 +142,7 @@ impl<C: LinkCore> Session<C> {
             tag,
             number: message,
             sms,
-            now: self.now,
+            now: self.latest,
         };
         self.say(&out, Saying::Submit { tag, message }, Some(message))
     }

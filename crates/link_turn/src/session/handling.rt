@@ -149,7 +149,7 @@ impl<C: LinkCore> Session<C> {
             message,
             smsc,
             foreign,
-            time: self.now,
+            time: self.latest,
         }))
     }
 
@@ -167,7 +167,7 @@ impl<C: LinkCore> Session<C> {
             message,
             smsc,
             cause: Cause::Centre(code),
-            time: self.now,
+            time: self.latest,
         }))
     }
 
@@ -188,7 +188,7 @@ impl<C: LinkCore> Session<C> {
             foreign,
             kind,
             text,
-            time: self.now,
+            time: self.latest,
         }))
     }
 
@@ -206,7 +206,7 @@ impl<C: LinkCore> Session<C> {
         self.phase = Phase::Recording(Recording::Message { tag });
         let sms = Sms {
             smsc: own,
-            time: self.now,
+            time: self.latest,
             ..sms
         };
         Wish::Perform(Recorded::Arrived(Arrived { smsc, sms }))

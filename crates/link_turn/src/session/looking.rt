@@ -1,6 +1,6 @@
 //! A session looks at what it keeps, and at the clock.
 
-ghost use Rattle.std.specs.Prelude.{◌≡◌, ◌↔◌, ◌≤◌, ◌-◌, ◌&&◌, not, nat_lt, nat_le, IsTrue, IfSome, OnNone, drop, length};
+ghost use Rattle.std.specs.Prelude.{◌≡◌, ◌↔◌, ◌≤◌, ◌-◌, ◌&&◌, not, nat_lt, nat_le, IsTrue, MatchOption, drop, length};
 ghost use Rattle.exact_octets.specs.Fronts.{IsProperFront};
 ghost use Rattle.link_core.specs.Grammar.{IsFrame, IsGrammar};
 ghost use Rattle.link_turn.specs.SessionSteps as steps;
@@ -84,7 +84,7 @@ impl<C: LinkCore> Session<C> {
             let cause = EndCause::NoReply {
                 tag: asked.tag,
                 sent: asked.said,
-                now: self.now,
+                now: self.latest,
             };
             return self.end(cause, None);
         }
@@ -93,7 +93,7 @@ impl<C: LinkCore> Session<C> {
         }
         if self.may_take() {
             self.phase = Phase::Taking;
-            return Wish::TakeNext { now: self.now };
+            return Wish::TakeNext { now: self.latest };
         }
         self.phase = Phase::Listening;
         Wish::Listen
@@ -101,8 +101,7 @@ impl<C: LinkCore> Session<C> {
 
     // What has waited too long for its answer.
     fn overdue(&self) -> Option<Asked>
-        ensures none { OnNone result (spec.NoneIsLate self.now) }
-        ensures some { IfSome result (λ asked. spec.Waits self.now asked × spec.IsLate self.now asked) }
+        ensures { MatchOption result (spec.NoneIsLate self.now) (λ asked. spec.Waits self.now asked × spec.IsLate self.now asked) }
     {
         if let Some(asked) = self.login {
             if self.is_late(asked) {
@@ -121,15 +120,15 @@ impl<C: LinkCore> Session<C> {
     fn is_late(&self, asked: Asked) -> bool
         ensures { IsTrue result ↔ spec.IsLate self.now asked }
     {
-        self.now.saturating_sub(asked.said) > u64::from(self.terms.wait_ack)
+        self.latest.saturating_sub(asked.said) > u64::from(self.terms.wait_ack)
     }
 
     // Whether nothing was said for so long that the centre is to be asked whether it is there.
     fn is_silent(&self) -> bool
-        ensures { result ≡ (self.now.up && (nat_lt 0 self.now.terms.keepalive && nat_le self.now.terms.keepalive (self.now.now - self.now.last_said))) }
+        ensures { result ≡ (self.now.up && (nat_lt 0 self.now.terms.keepalive && nat_le self.now.terms.keepalive (self.now.latest - self.now.last_said))) }
     {
         let keepalive = u64::from(self.terms.keepalive);
-        self.up && keepalive > 0 && self.now.saturating_sub(self.last_said) >= keepalive
+        self.up && keepalive > 0 && self.latest.saturating_sub(self.last_said) >= keepalive
     }
 
     // Whether a message may be taken.

@@ -60,12 +60,12 @@ impl<C: LinkCore> Session<C> {
     pub(super) fn said(&mut self) -> Wish
         requires session { spec.IsSession C.tags C.next_tag C.holds self.old }
         ensures wished { spec.IsWished C.tags C.next_tag C.holds C.hears C.most result self.new }
-        ensures law { steps.Always (λ core terms talk. (out : Sayings) → steps.WasSaid C.hears C.refuses C.said core terms out talk self.old → steps.StandsBehind C.hears C.refuses C.said core terms result (steps.with_step (step.says out self.old.now) talk) self.new) }
+        ensures law { steps.Always (λ core terms talk. (out : Sayings) → steps.WasSaid C.hears C.refuses C.said core terms out talk self.old → steps.StandsBehind C.hears C.refuses C.said core terms result (steps.with_step (step.says out self.old.latest) talk) self.new) }
     {
-        self.last_said = self.now;
+        self.last_said = self.latest;
         match self.phase {
             Phase::Saying(Saying::Login { tag }) => {
-                self.login = Some(Asked { tag, said: self.now });
+                self.login = Some(Asked { tag, said: self.latest });
                 self.look()
             }
             Phase::Saying(Saying::Submit { tag, message }) => self.submitted(tag, message),
@@ -79,9 +79,9 @@ impl<C: LinkCore> Session<C> {
         requires well { spec.IsWell C.tags C.next_tag self.old }
         requires room { spec.HasRoom self.old }
         ensures wished { spec.IsWished C.tags C.next_tag C.holds C.hears C.most result self.new }
-        ensures law { steps.Always (λ core terms talk. (sms : Sms) → (time : ℕ) → steps.WasSubmitted C.hears C.refuses C.said core terms tag message sms time talk self.old → steps.StandsBehind C.hears C.refuses C.said core terms result (steps.with_step (step.says (Out.Submit tag message sms time) self.old.now) talk) self.new) }
+        ensures law { steps.Always (λ core terms talk. (sms : Sms) → (time : ℕ) → steps.WasSubmitted C.hears C.refuses C.said core terms tag message sms time talk self.old → steps.StandsBehind C.hears C.refuses C.said core terms result (steps.with_step (step.says (Out.Submit tag message sms time) self.old.latest) talk) self.new) }
     {
-        let asked = Asked { tag, said: self.now };
+        let asked = Asked { tag, said: self.latest };
         match self.in_use.push(Submitted { message, asked }) {
             Ok(()) => self.look(),
             Err(_) => self.end(EndCause::Memory, Some(message)),
