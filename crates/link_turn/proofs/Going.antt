@@ -267,7 +267,7 @@ module _ {C : Type 0} (hears_so : List ℕ → Heard → Type 0) (refuses : List
   pub goes_said : (saying : Saying) (now : ℕ) (cut : List ℕ) (talk : Talk) (s : Session C) (wish : Wish) → s.phase ≡ phase_is.Saying saying → s.latest ≤ now
       → Stands hears_so refuses said core terms wish talk s
       → (out : Out) × GoesOn (said core) wish given_is.Said now cut talk (with_step (says out now) (with_reading now talk))
-      × WasSaid hears_so refuses said core terms out (with_reading now talk) (at now s)
+      × WasSaid hears_so refuses said core terms saying out (with_reading now talk) (at now s)
   goes_said saying now cut talk s wish pe order stands =
       let p = spoke_so s wish talk saying pe stands in
       let speaks = p.2 in
@@ -287,8 +287,6 @@ module _ {C : Type 0} (hears_so : List ℕ → Heard → Type 0) (refuses : List
           deeds = refl;
         }),
         record {
-          saying = saying;
-          phase = pe;
           keeps = keeps_read now talk s k;
           holds = holds_read (message_said saying) now talk s speaks.holds;
           frames = speaks.frames;

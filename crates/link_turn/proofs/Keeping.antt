@@ -1,5 +1,5 @@
 -- What a session keeps, where something of it changes, and by one step more.
-use Rattle.std.proofs.Common.{◌≡◌, ◌≢◌, ◌∙◌, refl, sym, ap, subst, ℕ, ◌+◌, ◌<◌, ◌≤◌, Bool, true, false, inl, inr, List, [], ◌∷◌, ◌++◌, length, map, append_assoc, arith}
+use Rattle.std.proofs.Common.{◌≡◌, ◌≢◌, ◌∙◌, refl, sym, ap, subst, ℕ, ◌+◌, ◌<◌, ◌≤◌, Bool, true, false, inl, inr, List, [], ◌∷◌, ◌++◌, length, map, drop, append_assoc, arith}
 use Rattle.std.specs.Prelude.{Option, Some, None, IfSome, ⊤}
 use Rattle.std.proofs.lemmas.List.{append-nil}
 use Rattle.gate_entries.specs.declared.passing.Passing.{Passing}
@@ -120,3 +120,57 @@ module _ {C : Type 0} (hears_so : List ℕ → Heard → Type 0) (refuses : List
         record { keeps = o.keeps; holds = o.holds; nothing_due = o.due_is; whole = o.whole },
         subst (λ (kept : List ℕ). AreFrames hears_so talk.heard (heards_in talk.steps ++ heard ∷ []) kept) (sym ke) f.frames
       )
+
+-- ---- what a part of a session leaves as it was
+
+module _ {C : Type 0} where
+  pub itself : (s : Session C) → AreAlike s s
+  itself s = record { core = refl; terms = refl; up = refl; now = refl; spoke = refl; found = λ yes. yes }
+
+  -- a tag was taken
+  pub tag_taken : (s t : Session C) → t ≡ record s { last_tag = t.last_tag } → AreAlike s t × (t.in_use.items ≡ s.in_use.items) × (t.login ≡ s.login) × (t.kept ≡ s.kept)
+  tag_taken s t e = (
+    record {
+      core = ap (λ (x : Session C). x.core) e;
+      terms = ap (λ (x : Session C). x.terms) e;
+      up = ap (λ (x : Session C). x.up) e;
+      now = ap (λ (x : Session C). x.latest) e;
+      spoke = ap (λ (x : Session C). x.last_said) e;
+      found = λ yes. sym (ap (λ (x : Session C). x.searched) e) ∙ yes;
+    },
+    ap (λ (x : Session C). x.in_use.items) e,
+    ap (λ (x : Session C). x.login) e,
+    ap (λ (x : Session C). x.kept) e
+  )
+
+  -- messages were taken out of those with tags
+  pub uses_taken : (s t : Session C) → t ≡ record s { in_use = t.in_use } → AreAlike s t × (t.login ≡ s.login) × (t.kept ≡ s.kept) × (t.phase ≡ s.phase)
+  uses_taken s t e = (
+    record {
+      core = ap (λ (x : Session C). x.core) e;
+      terms = ap (λ (x : Session C). x.terms) e;
+      up = ap (λ (x : Session C). x.up) e;
+      now = ap (λ (x : Session C). x.latest) e;
+      spoke = ap (λ (x : Session C). x.last_said) e;
+      found = λ yes. sym (ap (λ (x : Session C). x.searched) e) ∙ yes;
+    },
+    ap (λ (x : Session C). x.login) e,
+    ap (λ (x : Session C). x.kept) e,
+    ap (λ (x : Session C). x.phase) e
+  )
+
+  -- octets were dropped in front of those that are kept
+  pub front_dropped : (len : ℕ) (s t : Session C) → t ≡ record s { kept = drop len s.kept } → AreAlike s t × (t.in_use.items ≡ s.in_use.items) × (t.login ≡ s.login) × (t.kept ≡ drop len s.kept)
+  front_dropped len s t e = (
+    record {
+      core = ap (λ (x : Session C). x.core) e;
+      terms = ap (λ (x : Session C). x.terms) e;
+      up = ap (λ (x : Session C). x.up) e;
+      now = ap (λ (x : Session C). x.latest) e;
+      spoke = ap (λ (x : Session C). x.last_said) e;
+      found = λ yes. sym (ap (λ (x : Session C). x.searched) e) ∙ yes;
+    },
+    ap (λ (x : Session C). x.in_use.items) e,
+    ap (λ (x : Session C). x.login) e,
+    ap (λ (x : Session C). x.kept) e
+  )

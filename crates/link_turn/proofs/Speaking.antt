@@ -153,12 +153,12 @@ module _ {C : Type 0} (hears_so : List ℕ → Heard → Type 0) (refuses : List
   }
 
   -- nothing is due behind it
-  pub said_ready : (out : Out) (talk : Talk) (s t : Session C) (w : WasSaid hears_so refuses said core terms out talk s) → t.core ≡ s.core → t.terms ≡ s.terms → t.up ≡ s.up → t.latest ≡ s.latest
+  pub said_ready : (saying : Saying) (out : Out) (talk : Talk) (s t : Session C) (w : WasSaid hears_so refuses said core terms saying out talk s) → t.core ≡ s.core → t.terms ≡ s.terms → t.up ≡ s.up → t.latest ≡ s.latest
       → (t.searched ≡ true → s.searched ≡ true) → t.last_said ≡ s.latest → t.in_use.items ≡ s.in_use.items → uses_said out s.latest s.in_use.items ≡ s.in_use.items
-      → t.login ≡ login_said out s.latest s.login → due_by_said out ≡ nothing → message_said w.saying ≡ None → IsReady hears_so refuses said core terms (with_step (says out s.latest) talk) t
-  said_ready out talk s t w ce te ue ne se ls ie us le is none =
+      → t.login ≡ login_said out s.latest s.login → due_by_said out ≡ nothing → message_said saying ≡ None → IsReady hears_so refuses said core terms (with_step (says out s.latest) talk) t
+  said_ready saying out talk s t w ce te ue ne se ls ie us le is none =
       let k = w.keeps in
-      let may = may_be_said w.saying out talk w.before s.latest w.to_say w.order in
+      let may = may_be_said saying out talk w.before s.latest w.to_say w.order in
       let holds : Holds hears_so refuses said core terms None talk s = subst (λ (o : Option ℕ). Holds hears_so refuses said core terms o talk s) none w.holds in record {
         keeps = record {
           agrees = said_agrees out s.latest talk s t k.agrees ce te ue (subst AreApart (sym ie) k.agrees.apart) may w.timed k.latest;
@@ -175,11 +175,11 @@ module _ {C : Type 0} (hears_so : List ℕ → Heard → Type 0) (refuses : List
       }
 
   -- behind the answer to the end it is over
-  pub said_farewell : (out : Out) (talk : Talk) (s t : Session C) (w : WasSaid hears_so refuses said core terms out talk s) → t.core ≡ s.core → t.terms ≡ s.terms → t.up ≡ s.up
-      → t.in_use.items ≡ s.in_use.items → w.saying ≡ saying_is.Farewell → Ends hears_so refuses said core terms end_is.Bye None (with_step (says out s.latest) talk) t
-  said_farewell out talk s t w ce te ue ie is =
+  pub said_farewell : (saying : Saying) (out : Out) (talk : Talk) (s t : Session C) (w : WasSaid hears_so refuses said core terms saying out talk s) → t.core ≡ s.core → t.terms ≡ s.terms → t.up ≡ s.up
+      → t.in_use.items ≡ s.in_use.items → saying ≡ saying_is.Farewell → Ends hears_so refuses said core terms end_is.Bye None (with_step (says out s.latest) talk) t
+  said_farewell saying out talk s t w ce te ue ie is =
       let k = w.keeps in
-      let may = may_be_said w.saying out talk w.before s.latest w.to_say w.order in
+      let may = may_be_said saying out talk w.before s.latest w.to_say w.order in
       let bye : IsToSay hears_so refuses said core terms saying_is.Farewell out talk w.before = subst (λ (x : Saying). IsToSay hears_so refuses said core terms x out talk w.before) is w.to_say in
       let holds : Holds hears_so refuses said core terms None talk s = subst (λ (x : Saying). Holds hears_so refuses said core terms (message_said x) talk s) is w.holds in record {
         agrees = said_agrees out s.latest talk s t k.agrees ce te ue (subst AreApart (sym ie) k.agrees.apart) may w.timed k.latest;
@@ -192,10 +192,10 @@ module _ {C : Type 0} (hears_so : List ℕ → Heard → Type 0) (refuses : List
 
   -- ---- a message was said
 
-  pub was_submitted : (out : Out) (tag message : ℕ) (talk : Talk) (s t : Session C) (w : WasSaid hears_so refuses said core terms out talk s) → AreAlike (record s { last_said = s.latest }) t
-      → t.in_use.items ≡ s.in_use.items → t.login ≡ s.login → t.kept ≡ s.kept → w.saying ≡ saying_is.Submit tag message
+  pub was_submitted : (saying : Saying) (out : Out) (tag message : ℕ) (talk : Talk) (s t : Session C) (w : WasSaid hears_so refuses said core terms saying out talk s) → AreAlike (record s { last_said = s.latest }) t
+      → t.in_use.items ≡ s.in_use.items → t.login ≡ s.login → t.kept ≡ s.kept → saying ≡ saying_is.Submit tag message
       → (sms : Sms) × (time : ℕ) × (out ≡ out_is.Submit tag message sms time) × WasSubmitted hears_so refuses said core terms tag message sms time talk t
-  was_submitted out tag message talk s t w like ie le ke is =
+  was_submitted saying out tag message talk s t w like ie le ke is =
       let k = w.keeps in
       let to : IsToSay hears_so refuses said core terms (saying_is.Submit tag message) out talk w.before = subst (λ (x : Saying). IsToSay hears_so refuses said core terms x out talk w.before) is w.to_say in
       let holds : Holds hears_so refuses said core terms (Some message) talk s = subst (λ (x : Saying). Holds hears_so refuses said core terms (message_said x) talk s) is w.holds in (
@@ -259,3 +259,45 @@ module _ {C : Type 0} (hears_so : List ℕ → Heard → Type 0) (refuses : List
     frames = w.frames;
     caused = inl w.whole;
   }
+
+  -- ---- each thing that was said
+
+  abbrev WasSaidHere : Saying → Out → Talk → Session C → Type 0
+  WasSaidHere = WasSaid hears_so refuses said core terms
+
+  abbrev said_at : Session C → Session C
+  said_at s = record s { last_said = s.latest }
+
+  pub said_login : (tag : ℕ) (out : Out) (talk : Talk) (s : Session C) → WasSaidHere (saying_is.Login tag) out talk s
+      → IsReady hears_so refuses said core terms (with_step (says out s.latest) talk) (record s { last_said = s.latest; login = Some (record { tag = tag; said = s.latest }) })
+  said_login tag out talk s w =
+      let e : out ≡ out_is.Login tag = w.to_say.0 in
+      said_ready (saying_is.Login tag) out talk s (record s { last_said = s.latest; login = Some (record { tag = tag; said = s.latest }) }) w refl refl refl refl (λ yes. yes) refl refl
+      (subst (λ (o : Out). uses_said o s.latest s.in_use.items ≡ s.in_use.items) (sym e) refl)
+      (subst (λ (o : Out). Some (record { tag = tag; said = s.latest }) ≡ login_said o s.latest s.login) (sym e) refl)
+      (subst (λ (o : Out). due_by_said o ≡ nothing) (sym e) refl) refl
+
+  pub said_answer : (out : Out) (talk : Talk) (s : Session C) → WasSaidHere saying_is.Answer out talk s
+      → IsReady hears_so refuses said core terms (with_step (says out s.latest) talk) (said_at s)
+  said_answer out talk s w =
+      let is = w.to_say.1 in
+      said_ready saying_is.Answer out talk s (said_at s) w refl refl refl refl (λ yes. yes) refl refl
+      (answer_uses out s.latest s.in_use.items is) (sym (answer_login out s.latest s.login is)) (answer_due out is) refl
+
+  pub said_keep : (out : Out) (talk : Talk) (s : Session C) → WasSaidHere saying_is.Keep out talk s
+      → IsReady hears_so refuses said core terms (with_step (says out s.latest) talk) (said_at s)
+  said_keep out talk s w =
+      let e : out ≡ out_is.Keep w.to_say.0 = w.to_say.1 in
+      said_ready saying_is.Keep out talk s (said_at s) w refl refl refl refl (λ yes. yes) refl refl
+      (subst (λ (o : Out). uses_said o s.latest s.in_use.items ≡ s.in_use.items) (sym e) refl)
+      (subst (λ (o : Out). s.login ≡ login_said o s.latest s.login) (sym e) refl)
+      (subst (λ (o : Out). due_by_said o ≡ nothing) (sym e) refl) refl
+
+  pub said_bye : (out : Out) (talk : Talk) (s : Session C) → WasSaidHere saying_is.Farewell out talk s
+      → Ends hears_so refuses said core terms end_is.Bye None (with_step (says out s.latest) talk) (said_at s)
+  said_bye out talk s w = said_farewell saying_is.Farewell out talk s (said_at s) w refl refl refl refl refl
+
+  pub said_submit : (tag message : ℕ) (out : Out) (talk : Talk) (s : Session C) → WasSaidHere (saying_is.Submit tag message) out talk s
+      → (sms : Sms) × (time : ℕ) × (out ≡ out_is.Submit tag message sms time) × WasSubmitted hears_so refuses said core terms tag message sms time talk (said_at s)
+  said_submit tag message out talk s w =
+      was_submitted (saying_is.Submit tag message) out tag message talk s (said_at s) w (record { core = refl; terms = refl; up = refl; now = refl; spoke = refl; found = λ yes. yes }) refl refl refl refl

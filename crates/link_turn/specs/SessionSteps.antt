@@ -247,9 +247,7 @@ module _ {C : Type 0} (hears_so : List ℕ → Heard → Type 0) (refuses : List
     pub long : session.last_said + session.terms.keepalive ≤ session.latest
 
   -- something was said whole
-  pub record WasSaid (out : Out) (talk : Talk) (session : Session C) : Type 0 where
-    pub saying : Saying
-    pub phase : session.phase ≡ phase_is.Saying saying
+  pub record WasSaid (saying : Saying) (out : Out) (talk : Talk) (session : Session C) : Type 0 where
     pub keeps : Keeps talk session
     pub holds : Holds (message_said saying) talk session
     pub frames : Frames talk session

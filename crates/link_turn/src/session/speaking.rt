@@ -6,7 +6,8 @@ ghost use Rattle.link_turn.specs.Back.{IsFree, has_tag};
 ghost use Rattle.link_turn.specs.SessionSteps as steps;
 ghost use Rattle.link_turn.specs.Steps as step;
 ghost use Rattle.sms_record.specs.declared.sms.Sms.{Sms};
-ghost use Rattle.link_core.specs.declared.out.Out.{Out as Sayings};
+ghost use Rattle.link_core.specs.declared.out.Out.{Out as Outs};
+ghost use Rattle.link_turn.specs.declared.session.Saying.{Saying as Sayings};
 ghost use Rattle.std.specs.Prelude.{◌≡◌, ℕ};
 ghost use Rattle.link_turn.specs.Session as spec;
 
@@ -56,22 +57,45 @@ impl<C: LinkCore> Session<C> {
         }
     }
 
-    // It was said whole.
+    // What was to be said was said whole.
     pub(super) fn said(&mut self) -> Wish
         requires session { spec.IsSession C.tags C.next_tag C.holds self.old }
         ensures wished { spec.IsWished C.tags C.next_tag C.holds C.hears C.most result self.new }
-        ensures law { steps.Always (λ core terms talk. (out : Sayings) → steps.WasSaid C.hears C.refuses C.said core terms out talk self.old → steps.StandsBehind C.hears C.refuses C.said core terms result (steps.with_step (step.says out self.old.latest) talk) self.new) }
+        ensures law { steps.Always (λ core terms talk. (saying : Sayings) → (out : Outs) → self.old.phase ≡ Phase.Saying saying → steps.WasSaid C.hears C.refuses C.said core terms saying out talk self.old → steps.StandsBehind C.hears C.refuses C.said core terms result (steps.with_step (step.says out self.old.latest) talk) self.new) }
     {
-        self.last_said = self.latest;
         match self.phase {
-            Phase::Saying(Saying::Login { tag }) => {
-                self.login = Some(Asked { tag, said: self.latest });
-                self.look()
-            }
-            Phase::Saying(Saying::Submit { tag, message }) => self.submitted(tag, message),
-            Phase::Saying(Saying::Farewell) => self.end(EndCause::Bye, None),
+            Phase::Saying(saying) => self.said_so(saying),
             _ => self.look(),
         }
+    }
+
+    // This was said whole.
+    fn said_so(&mut self, saying: Saying) -> Wish
+        requires well { spec.IsWell C.tags C.next_tag self.old }
+        requires room { spec.IsPhase C.holds (Phase.Saying saying) self.old }
+        ensures wished { spec.IsWished C.tags C.next_tag C.holds C.hears C.most result self.new }
+        ensures law { steps.Always (λ core terms talk. (out : Outs) → steps.WasSaid C.hears C.refuses C.said core terms saying out talk self.old → steps.StandsBehind C.hears C.refuses C.said core terms result (steps.with_step (step.says out self.old.latest) talk) self.new) }
+    {
+        self.last_said = self.latest;
+        match saying {
+            Saying::Login { tag } => self.asked(tag),
+            Saying::Submit { tag, message } => self.submitted(tag, message),
+            Saying::Farewell => self.end(EndCause::Bye, None),
+            Saying::Answer | Saying::Keep => self.look(),
+        }
+    }
+
+    // The login was said whole.
+    fn asked(&mut self, tag: u32) -> Wish
+        requires well { spec.IsWell C.tags C.next_tag self.old }
+        ensures wished { spec.IsWished C.tags C.next_tag C.holds C.hears C.most result self.new }
+        ensures law { steps.Always (λ core terms talk. steps.IsReady C.hears C.refuses C.said core terms talk (record self.old { login = Some (record { tag = tag; said = self.old.latest }) }) → steps.Frames C.hears C.refuses C.said core terms talk self.old → steps.StandsBehind C.hears C.refuses C.said core terms result talk self.new) }
+    {
+        self.login = Some(Asked {
+            tag,
+            said: self.latest,
+        });
+        self.look()
     }
 
     // A message was said whole.
