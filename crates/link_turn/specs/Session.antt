@@ -184,10 +184,14 @@ module _ {C : Type 0} where
   abbrev pub Waits : Session C → Asked → Type 0
   Waits session asked = (session.login ≡ Some asked) ⊎ ((message : ℕ) × Contains session.in_use.items (record { message = message; asked = asked }))
 
+  -- a message doesn't wait too long
+  abbrev pub IsTimely : Session C → Submitted → Type 0
+  IsTimely session submitted = session.latest ≤ submitted.asked.said + session.terms.wait_ack
+
   -- nothing waits too long
   pub record NoneIsLate (session : Session C) : Type 0 where
     pub login : IfSome session.login (λ asked. session.latest ≤ asked.said + session.terms.wait_ack)
-    pub answers : All (λ submitted. session.latest ≤ submitted.asked.said + session.terms.wait_ack) session.in_use.items
+    pub answers : All (IsTimely session) session.in_use.items
 
 -- ---- a talk so far
 

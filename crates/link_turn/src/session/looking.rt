@@ -1,6 +1,6 @@
 //! A session looks at what it keeps, and at the clock.
 
-ghost use Rattle.std.specs.Prelude.{◌≡◌, ◌↔◌, ◌≤◌, ◌-◌, ◌&&◌, not, nat_lt, nat_le, IsTrue, MatchOption, drop, length};
+ghost use Rattle.std.specs.Prelude.{◌≡◌, ◌↔◌, ◌≤◌, ◌-◌, ◌&&◌, not, nat_lt, nat_le, IsTrue, None, IfSome, All, drop, length};
 ghost use Rattle.exact_octets.specs.Fronts.{IsProperFront};
 ghost use Rattle.link_core.specs.Grammar.{IsFrame, IsGrammar};
 ghost use Rattle.link_turn.specs.SessionSteps as steps;
@@ -101,13 +101,23 @@ impl<C: LinkCore> Session<C> {
 
     // What has waited too long for its answer.
     fn overdue(&self) -> Option<Asked>
-        ensures { MatchOption result (spec.NoneIsLate self.now) (λ asked. spec.Waits self.now asked × spec.IsLate self.now asked) }
+        ensures none { result ≡ None → spec.NoneIsLate self.now }
+        ensures some { IfSome result (λ asked. spec.Waits self.now asked × spec.IsLate self.now asked) }
     {
-        if let Some(asked) = self.login {
-            if self.is_late(asked) {
-                return Some(asked);
-            }
+        let Some(asked) = self.login else {
+            return self.overdue_message();
+        };
+        if self.is_late(asked) {
+            return Some(asked);
         }
+        self.overdue_message()
+    }
+
+    // A message that has waited too long for its answer.
+    fn overdue_message(&self) -> Option<Asked>
+        ensures none { result ≡ None → All (spec.IsTimely self.now) self.now.in_use.items }
+        ensures some { IfSome result (λ asked. spec.Waits self.now asked × spec.IsLate self.now asked) }
+    {
         for submitted in &self.in_use {
             if self.is_late(submitted.asked) {
                 return Some(submitted.asked);

@@ -81,7 +81,8 @@ impl<C: LinkCore> Session<C> {
             Saying::Login { tag } => self.asked(tag),
             Saying::Submit { tag, message } => self.submitted(tag, message),
             Saying::Farewell => self.end(EndCause::Bye, None),
-            Saying::Answer | Saying::Keep => self.look(),
+            Saying::Answer => self.look(),
+            Saying::Keep => self.look(),
         }
     }
 
@@ -120,7 +121,7 @@ impl<C: LinkCore> Session<C> {
         ensures holds { C.holds result }
         ensures free { IsFree result self.new.in_use.items }
     {
-        for _ in 0..self.in_use.len() {
+        for _tried in 0..self.in_use.len() {
             let tag = self.core.next_tag(self.last_tag);
             self.last_tag = Some(tag);
             if !self.is_in_use(tag) {

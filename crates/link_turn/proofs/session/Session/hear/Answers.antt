@@ -1,0 +1,12 @@
+use Rattle.std.proofs.Common.{[], refl}
+use Rattle.link_turn.proofs.Keeping.{ready_same}
+use Rattle.link_turn.proofs.Looking.{heeds_not}
+use Rattle.link_turn.proofs.session.Session.hear.Goals as goal
+
+pub returns-in-Ok-clause-law : goal.returns-in-Ok-clause-law
+returns-in-Ok-clause-law g c = λ core terms talk h.
+    c.look.ensures.law core terms talk (ready_same g.C.LinkCore.hears g.C.LinkCore.refuses g.C.LinkCore.said core terms talk c.args.self.now _ (record { core = refl; terms = refl; up = refl; now = refl; spoke = refl; found = λ yes. cc }) refl refl h.ready) ?
+
+pub returns-in-Err-clause-law : goal.returns-in-Err-clause-law
+returns-in-Err-clause-law g c = λ core terms talk h.
+    ([], c.end.ensures.law core terms talk (heeds_not g.C.LinkCore.hears g.C.LinkCore.refuses g.C.LinkCore.said core terms c.args.octets.now talk c.args.self.now _ h refl refl refl refl))
