@@ -297,7 +297,7 @@ module _ {C : Type 0} (hears_so : List ℕ → Heard → Type 0) (refuses : List
   }
 
   unsearched : (s : Session C) (b : Bool) → s.searched ≡ false → s.searched ≡ true → b ≡ true
-  unsearched s b no yes = absurd (false≢true (sym no ∙ yes))
+  unsearched s b isnt is = absurd (false≢true (sym isnt ∙ is))
 
   -- it was too old
   pub taken_late : (time message : ℕ) (talk : Talk) (s : Session C) → WasTaken hears_so refuses said core terms time talk s

@@ -31,7 +31,7 @@ module _ (first second : Sms) where
 
   first_may_be_said : AreSteps one_at_once first_said
   first_may_be_said =
-      ((2, 1000, refl, (refl, omega arith)), (refl, refl), refl, refl, (1, 0, refl, tt), tt)
+      ((2, 1000, refl, (refl, omega arith)), ((refl, refl), (refl, (refl, ((1, 0, refl, tt), tt)))))
 
   -- no second one may be said while the window is full
   second_may_not : (tag time now : ℕ) → MayCome one_at_once (says (out.Submit tag 2 second time) now) (takes 1000 (Ok (Some (taken.Send 2 second))) ∷ first_said) → ⊥
@@ -45,7 +45,7 @@ module _ (first second : Sms) where
       ∷ first_said
 
   second_may_be_said : AreSteps one_at_once second_said
-  second_may_be_said = ((3, 1001, refl, (refl, omega arith)), (refl, refl), (1001, refl), refl, first_may_be_said)
+  second_may_be_said = ((3, 1001, refl, (refl, omega arith)), ((refl, refl), ((1001, refl), (refl, first_may_be_said))))
 
   -- the same answer once more has no deed
   answered_again : due (hears (heard.Reply 2 (Good (65 ∷ []))) ∷ second_said) ≡ nothing
@@ -56,7 +56,7 @@ module _ (first second : Sms) where
   given_back = refl
 
   taken_again : AreSteps one_at_once (takes 1002 (Ok (Some (taken.Send 1 first))) ∷ passes (Returned 1) ∷ hears (heard.Reply 2 (Temporary 88)) ∷ first_said)
-  taken_again = ((refl, refl), refl, refl, first_may_be_said)
+  taken_again = ((refl, refl), (refl, (refl, first_may_be_said)))
 
   -- a question is asked after as many seconds, and not before
   asked : MayCome one_at_once (says (out.Keep 3) 1030) first_said
@@ -74,7 +74,7 @@ module _ (first second : Sms) where
 
   -- at the end what is held is given back, and then the link goes down
   left : AreSteps one_at_once (leaves (Down 0) ∷ leaves (Returned 1) ∷ first_said)
-  left = ((refl, refl, refl), refl, first_may_be_said)
+  left = ((refl, refl, refl), (refl, first_may_be_said))
 
   -- not before it is given back
   not_down : MayCome one_at_once (leaves (Down 0)) first_said → ⊥

@@ -29,7 +29,7 @@ use Rattle.link_turn.specs.declared.submitted.Submitted.{Submitted}
 use Rattle.link_turn.specs.declared.terms.Terms.{Terms}
 use Rattle.link_turn.specs.declared.wish.Wish.{Wish}
 use Rattle.link_turn.specs.declared.wish.Wish.TheVariants as wish_is
-use Rattle.link_turn.proofs.Uses.{apart_found, apart-without, free_found, without_free, none_is_some}
+use Rattle.link_turn.proofs.Uses.{apart_found, apart-without, free_found, without_free}
 use Rattle.link_turn.proofs.Keeping.{AreAlike, heard_keeps, heard_owes, heard_ready, keeps_same, holds_same}
 use Rattle.link_turn.proofs.Speaking.{timed_now}
 

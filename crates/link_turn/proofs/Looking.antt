@@ -109,7 +109,7 @@ module _ {C : Type 0} (hears_so : List ℕ → Heard → Type 0) (refuses : List
   unanswered asked talk s k waits =
       elim waits [
         | inl login ↦ inl (sym k.asked ∙ login)
-        | inr use ↦ inr (use.0, subst (λ (us : List Submitted). Contains us (record { message = use.0; asked = asked })) k.used use.1)
+        | inr one ↦ inr (one.0, subst (λ (us : List Submitted). Contains us (record { message = one.0; asked = asked })) k.used one.1)
       ]
 
   pub too_late : (asked : Asked) (talk : Talk) (s : Session C) → IsReady hears_so refuses said core terms talk s → Frames hears_so refuses said core terms talk s → ¬ HasFirst (IsFrame hears_so) s.kept
@@ -122,10 +122,10 @@ module _ {C : Type 0} (hears_so : List ℕ → Heard → Type 0) (refuses : List
   pub takes_so : (talk : Talk) (s t : Session C) (wish : Wish) → IsReady hears_so refuses said core terms talk s → Frames hears_so refuses said core terms talk s → AreAlike s t
       → t.in_use.items ≡ s.in_use.items → t.login ≡ s.login → t.kept ≡ s.kept → t.phase ≡ Taking → s.up ≡ true → t.searched ≡ false → wish ≡ wish_is.TakeNext t.latest
       → Stands hears_so refuses said core terms wish talk t
-  takes_so talk s t wish r f like ie le ke pe up no we =
+  takes_so talk s t wish r f like ie le ke pe up isnt we =
       subst (λ (p : Phase). StandsIn hears_so refuses said core terms p wish talk t) (sym pe)
       (we, ready_same hears_so refuses said core terms talk s t like ie le r, subst (λ (kept : List ℕ). AreFrames hears_so talk.heard (heards_in talk.steps) kept) (sym ke) f,
-      sym r.keeps.agrees.is_up ∙ up, no)
+      sym r.keeps.agrees.is_up ∙ up, isnt)
 
   pub listens_so : (talk : Talk) (s t : Session C) (wish : Wish) → IsReady hears_so refuses said core terms talk s → Frames hears_so refuses said core terms talk s → AreAlike s t
       → t.in_use.items ≡ s.in_use.items → t.login ≡ s.login → t.kept ≡ s.kept → t.phase ≡ Listening → wish ≡ wish_is.Listen → NoneIsLate s
@@ -138,7 +138,7 @@ module _ {C : Type 0} (hears_so : List ℕ → Heard → Type 0) (refuses : List
       let rests : Rests terms s.latest talk.steps = record {
         taken = λ e. elim (taken (up e)) [
           | inl full ↦ inl (sym (ap (λ (us : List Submitted). length us) k.used) ∙ full ∙ ap (λ (x : Terms). x.window) te)
-          | inr yes ↦ inr (k.found yes)
+          | inr found ↦ inr (k.found found)
         ];
         login = subst (λ (l : Option Asked). IfSome l (λ asked. s.latest ≤ asked.said + terms.wait_ack)) k.asked
             (subst (λ (x : Terms). IfSome s.login (λ asked. s.latest ≤ asked.said + x.wait_ack)) te none.login);

@@ -113,3 +113,44 @@ tag_is_free next tags holds first uses tag are few used is =
               (λ i j less below. are.apart (first + i) (first + j) (omega (arith, less)) (omega (arith, below, few))) in
           absurd (omega (arith, many))
     ]
+
+-- so many tags were tried, all of them in use, and the next one comes behind them
+pub record Tried (next : Option ℕ → ℕ) (last : Option ℕ) (count : ℕ) (uses : List Submitted) : Type 0 where
+  pub first : ℕ
+  pub following : IsNextTag next last (first + count)
+  pub used : (i : ℕ) → i < count → ¬ IsFree (nth_tag next (first + i)) uses
+  pub tag : IsTag next last
+
+pub none_tried : (next : Option ℕ → ℕ) (last : Option ℕ) (uses : List Submitted) → IsTag next last → Tried next last 0 uses
+none_tried next last uses tag =
+    let first = next_tag_first next last tag in record {
+      first = first.0;
+      following = subst (IsNextTag next last) (omega arith) first.1;
+      used = λ i less. absurd (omega (arith, less));
+      tag = tag;
+    }
+
+pub one_tried : (next : Option ℕ → ℕ) (last : Option ℕ) (count tag : ℕ) (uses : List Submitted) → Tried next last count uses → tag ≡ next last → list_any (has_tag tag) uses ≡ true
+    → Tried next (Some tag) (count + 1) uses
+one_tried next last count tag uses t is used =
+    let then_ = next_tag_then next last (t.first + count) tag t.following is in record {
+      first = t.first;
+      following = subst (IsNextTag next (Some tag)) (omega arith) then_.0;
+      used = λ i less. elim (lt_or_last i count less) [
+        | inl below ↦ t.used i below
+        | inr here ↦ subst (λ (k : ℕ). ¬ IsFree (nth_tag next (t.first + k)) uses) (sym here)
+            (subst (λ (g : ℕ). ¬ IsFree g uses) (is ∙ t.following) (any_used tag uses used))
+      ];
+      tag = then_.1;
+    }
+
+-- the tag behind them
+pub tag_behind : (next : Option ℕ → ℕ) (last : Option ℕ) (count tag : ℕ) (uses : List Submitted) → Tried next last count uses → tag ≡ next last → IsTag next (Some tag)
+tag_behind next last count tag uses t is = (next_tag_then next last (t.first + count) tag t.following is).1
+
+pub tag_holds : (next : Option ℕ → ℕ) (tags : ℕ) (holds : ℕ → Type 0) (last : Option ℕ) (count tag : ℕ) (uses : List Submitted) → AreTags next tags holds → Tried next last count uses → tag ≡ next last → holds tag
+tag_holds next tags holds last count tag uses are t is = subst holds (sym (is ∙ t.following)) (are.held (t.first + count))
+
+pub tag_free : (next : Option ℕ → ℕ) (tags : ℕ) (holds : ℕ → Type 0) (last : Option ℕ) (tag : ℕ) (uses : List Submitted) → AreTags next tags holds → length uses + 1 < tags
+    → Tried next last (length uses) uses → tag ≡ next last → IsFree tag uses
+tag_free next tags holds last tag uses are few t is = tag_is_free next tags holds t.first uses tag are few t.used (is ∙ t.following)

@@ -1,6 +1,7 @@
 //! A session is answered by the store.
 
 ghost use Rattle.link_core.specs.Saying.{IsSubmit};
+ghost use Rattle.link_turn.specs.Back.{IsAmong};
 ghost use Rattle.link_turn.specs.Due as due;
 ghost use Rattle.link_turn.specs.SessionSteps as steps;
 ghost use Rattle.link_turn.specs.Steps as step;
@@ -133,6 +134,7 @@ impl<C: LinkCore> Session<C> {
     fn submit(&mut self, message: u64, sms: Sms) -> Wish
         requires well { spec.IsWell C.tags C.next_tag self.old }
         requires room { spec.HasRoom self.old }
+        requires fresh { ¬ IsAmong message (spec.messages self.old.in_use.items) }
         requires submit { IsSubmit C.kind message sms self.old.latest }
         ensures wished { spec.IsWished C.tags C.next_tag C.holds C.hears C.most result self.new }
         ensures law { steps.Always (λ core terms talk. (time : ℕ) → steps.WasTaken C.hears C.refuses C.said core terms time talk self.old → steps.StandsBehind C.hears C.refuses C.said core terms result (steps.with_step (step.takes time (Ok (Some (Taken.Send message sms)))) talk) self.new) }

@@ -3,18 +3,34 @@
 ghost use Rattle.std.specs.Prelude.{◌≡◌, ℕ, IfOk};
 ghost use Rattle.link_core.specs.Heard.{IsSound, IsSoundVerdict, IsShort, IsArrival, heard_tag};
 ghost use Rattle.link_core.specs.Saying.{CanHear, MaySay, out_tag};
-ghost use Rattle.link_turn.specs.Back.{message_under, without_tag};
+ghost use Rattle.link_turn.specs.Back as back;
 ghost use Rattle.link_turn.specs.SessionSteps as steps;
 ghost use Rattle.link_turn.specs.Steps as step;
 ghost use Rattle.link_turn.specs.Due as due;
 ghost use Rattle.link_turn.specs.Session as spec;
 
 use super::{Phase, Recording, Saying, Session};
+use crate::submitted::Submitted;
 use crate::{EndCause, Wish};
 use gate_entries::{Acked, Arrived, Cause, Passing, Recorded, Rejected, Reported};
 use kn_base::{Memory, Octets};
 use link_core::{Heard, LinkCore, Out, Verdict};
 use sms_record::{Kind, Sms};
+
+/// The message that has the tag.
+fn message_under(uses: &[Submitted], tag: u32) -> Option<u64>
+    ensures { result ≡ back.message_under tag uses.now }
+{
+    let found = uses.iter().find(|submitted| submitted.asked.tag == tag);
+    Some(found?.message)
+}
+
+/// Takes the message that has the tag out, if there is one.
+fn remove_tag(uses: &mut Vec<Submitted>, tag: u32)
+    ensures { uses.new.items ≡ back.without_tag tag uses.old.items }
+{
+    uses.retain(|submitted| submitted.asked.tag != tag);
+}
 
 impl<C: LinkCore> Session<C> {
     // Deals with a frame. There is nothing to wish where it asks for nothing.
@@ -114,14 +130,13 @@ impl<C: LinkCore> Session<C> {
 
     // The message whose tag this is; the tag is no more in use.
     fn take_answered(&mut self, tag: u32) -> Option<u64>
-        ensures found { result ≡ message_under tag self.old.in_use.items }
+        ensures found { result ≡ back.message_under tag self.old.in_use.items }
         ensures same { self.new ≡ record self.old { in_use = self.new.in_use } }
-        ensures others { self.new.in_use.items ≡ without_tag tag self.old.in_use.items }
+        ensures others { self.new.in_use.items ≡ back.without_tag tag self.old.in_use.items }
     {
-        let found = self.in_use.iter().find(|submitted| submitted.asked.tag == tag);
-        let message = found?.message;
-        self.in_use.retain(|submitted| submitted.asked.tag != tag);
-        Some(message)
+        let message = message_under(&self.in_use, tag);
+        remove_tag(&mut self.in_use, tag);
+        message
     }
 
     // A message waits again.

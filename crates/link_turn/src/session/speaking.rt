@@ -121,7 +121,7 @@ impl<C: LinkCore> Session<C> {
         ensures holds { C.holds result }
         ensures free { IsFree result self.new.in_use.items }
     {
-        for _tried in 0..self.in_use.len() {
+        for tried in 0..self.in_use.len() {
             let tag = self.core.next_tag(self.last_tag);
             self.last_tag = Some(tag);
             if !self.is_in_use(tag) {
