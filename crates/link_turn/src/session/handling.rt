@@ -1,6 +1,6 @@
 //! A session deals with a frame.
 
-ghost use Rattle.std.specs.Prelude.{◌≡◌, ℕ, IfOk};
+ghost use Rattle.std.specs.Prelude.{◌≡◌, ℕ, None, IfOk};
 ghost use Rattle.link_core.specs.Heard.{IsSound, IsSoundVerdict, IsShort, IsArrival, heard_tag};
 ghost use Rattle.link_core.specs.Saying.{CanHear, MaySay, out_tag};
 ghost use Rattle.link_turn.specs.Back as back;
@@ -40,6 +40,7 @@ impl<C: LinkCore> Session<C> {
         requires tag { C.holds (heard_tag heard) }
         requires sound { IsSound heard }
         ensures wished { spec.IsWishedThen C.tags C.next_tag C.holds C.hears C.most result self.new }
+        ensures kept { result ≡ None → self.new.kept ≡ self.old.kept }
         ensures law { steps.Always (λ core terms talk. steps.Faces C.hears C.refuses C.said core terms (heard) talk self.old → steps.StandsThen C.hears C.refuses C.said core terms result (steps.with_step (step.hears (heard)) talk) self.new) }
     {
         match heard {
@@ -77,6 +78,7 @@ impl<C: LinkCore> Session<C> {
     fn logged_in(&mut self, tag: u32, code: u32) -> Option<Wish>
         requires well { spec.IsWell C.tags C.next_tag self.old }
         ensures wished { spec.IsWishedThen C.tags C.next_tag C.holds C.hears C.most result self.new }
+        ensures kept { result ≡ None → self.new.kept ≡ self.old.kept }
         ensures law { steps.Always (λ core terms talk. steps.Faces C.hears C.refuses C.said core terms (Heard.Login tag code) talk self.old → steps.StandsThen C.hears C.refuses C.said core terms result (steps.with_step (step.hears (Heard.Login tag code)) talk) self.new) }
     {
         match self.login {
@@ -108,6 +110,7 @@ impl<C: LinkCore> Session<C> {
         requires well { spec.IsWell C.tags C.next_tag self.old }
         requires sound { IsSoundVerdict verdict }
         ensures wished { spec.IsWishedThen C.tags C.next_tag C.holds C.hears C.most result self.new }
+        ensures kept { result ≡ None → self.new.kept ≡ self.old.kept }
         ensures law { steps.Always (λ core terms talk. steps.Faces C.hears C.refuses C.said core terms (Heard.Reply tag verdict) talk self.old → steps.StandsThen C.hears C.refuses C.said core terms result (steps.with_step (step.hears (Heard.Reply tag verdict)) talk) self.new) }
     {
         let message = self.take_answered(tag)?;
@@ -122,6 +125,7 @@ impl<C: LinkCore> Session<C> {
     fn nacked(&mut self, tag: u32) -> Option<Wish>
         requires well { spec.IsWell C.tags C.next_tag self.old }
         ensures wished { spec.IsWishedThen C.tags C.next_tag C.holds C.hears C.most result self.new }
+        ensures kept { result ≡ None → self.new.kept ≡ self.old.kept }
         ensures law { steps.Always (λ core terms talk. (code : ℕ) → steps.Faces C.hears C.refuses C.said core terms (Heard.Nack tag code) talk self.old → steps.StandsThen C.hears C.refuses C.said core terms result (steps.with_step (step.hears (Heard.Nack tag code)) talk) self.new) }
     {
         let message = self.take_answered(tag)?;
