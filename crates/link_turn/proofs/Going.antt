@@ -8,6 +8,7 @@ use Rattle.gate_entries.specs.declared.recorded.Recorded.{Recorded}
 use Rattle.gate_model.specs.declared.reply.Refusal.{Refusal}
 use Rattle.gate_model.specs.declared.reply.Reply.{Reply}
 use Rattle.gate_store.specs.declared.taken.Taken.{Taken}
+use Rattle.link_core.specs.Grammar.{IsFrame, HasFirst}
 use Rattle.link_core.specs.Streams.{AreFrames}
 use Rattle.link_core.specs.declared.heard.Heard.{Heard}
 use Rattle.link_core.specs.declared.out.Out.{Out}
@@ -127,9 +128,9 @@ module _ {C : Type 0} (hears_so : List ℕ → Heard → Type 0) (refuses : List
 
   -- it was listening
   pub listened : (s : Session C) (wish : Wish) (talk : Talk) → s.phase ≡ Listening → Stands hears_so refuses said core terms wish talk s
-      → (wish ≡ wish_is.Listen) × IsReady hears_so refuses said core terms talk s × Frames hears_so refuses said core terms talk s
+      → (wish ≡ wish_is.Listen) × IsReady hears_so refuses said core terms talk s × Frames hears_so refuses said core terms talk s × (¬ HasFirst (IsFrame hears_so) s.kept)
   listened s wish talk pe stands =
-      let l = subst (λ (p : Phase). StandsIn hears_so refuses said core terms p wish talk s) pe stands in (l.0, l.1, l.2)
+      let l = subst (λ (p : Phase). StandsIn hears_so refuses said core terms p wish talk s) pe stands in (l.0, l.1, l.2, l.3)
 
   silently : (given : Given) (now : ℕ) (cut : List ℕ) (talk : Talk) (wish : Wish) → heard_by given ≡ [] → spoken_by wish_is.Listen given cut ≡ [] → deeds_by wish_is.Listen given ≡ [] → wish ≡ wish_is.Listen
       → GoesOn (said core) wish given now cut talk (with_reading now talk)
@@ -190,7 +191,7 @@ module _ {C : Type 0} (hears_so : List ℕ → Heard → Type 0) (refuses : List
   -- it ends behind listening, for a cause that nothing due stands behind
   pub goes_over : (given : Given) (cause : EndCause) (now : ℕ) (cut : List ℕ) (talk : Talk) (s : Session C) (wish : Wish) → s.phase ≡ Listening → Stands hears_so refuses said core terms wish talk s
       → heard_by given ≡ [] → spoken_by wish_is.Listen given cut ≡ [] → deeds_by wish_is.Listen given ≡ []
-      → (IsReady hears_so refuses said core terms (with_reading now talk) (at now s) → IsCause hears_so refuses (said core) terms cause talk.steps s.kept talk.cut)
+      → (IsIdle hears_so refuses (said core) terms talk.steps s.kept talk.cut → IsCause hears_so refuses (said core) terms cause talk.steps s.kept talk.cut)
       → GoesOn (said core) wish given now cut talk (with_reading now talk) × Ends hears_so refuses said core terms cause None (with_reading now talk) (at now s)
   goes_over given cause now cut talk s wish pe stands hn sn dn caused =
       let l = listened s wish talk pe stands in
@@ -202,7 +203,7 @@ module _ {C : Type 0} (hears_so : List ℕ → Heard → Type 0) (refuses : List
           holds = r.holds;
           rest = s.kept;
           frames = l.2;
-          caused = caused r;
+          caused = caused (record { nothing_due = l.1.nothing_due; all_handled = l.3; whole = l.1.whole });
         }
       )
 

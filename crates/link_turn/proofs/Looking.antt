@@ -128,10 +128,10 @@ module _ {C : Type 0} (hears_so : List ℕ → Heard → Type 0) (refuses : List
       sym r.keeps.agrees.is_up ∙ up, isnt)
 
   pub listens_so : (talk : Talk) (s t : Session C) (wish : Wish) → IsReady hears_so refuses said core terms talk s → Frames hears_so refuses said core terms talk s → AreAlike s t
-      → t.in_use.items ≡ s.in_use.items → t.login ≡ s.login → t.kept ≡ s.kept → t.phase ≡ Listening → wish ≡ wish_is.Listen → NoneIsLate s
+      → t.in_use.items ≡ s.in_use.items → t.login ≡ s.login → t.kept ≡ s.kept → t.phase ≡ Listening → wish ≡ wish_is.Listen → ¬ HasFirst (IsFrame hears_so) s.kept → NoneIsLate s
       → (s.up ≡ true → (length s.in_use.items ≡ s.terms.window) ⊎ (s.searched ≡ true)) → (s.up ≡ true → (s.terms.keepalive ≡ 0) ⊎ (s.latest < s.last_said + s.terms.keepalive))
       → Stands hears_so refuses said core terms wish talk t
-  listens_so talk s t wish r f like ie le ke pe we none taken silence =
+  listens_so talk s t wish r f like ie le ke pe we front none taken silence =
       let k = r.keeps in
       let te = k.agrees.terms_are in
       let up : is_up talk.steps ≡ true → s.up ≡ true = λ e. k.agrees.is_up ∙ e in
@@ -151,4 +151,4 @@ module _ {C : Type 0} (hears_so : List ℕ → Heard → Type 0) (refuses : List
       } in
       subst (λ (p : Phase). StandsIn hears_so refuses said core terms p wish talk t) (sym pe)
       (we, ready_same hears_so refuses said core terms talk s t like ie le r, subst (λ (kept : List ℕ). AreFrames hears_so talk.heard (heards_in talk.steps) kept) (sym ke) f,
-      subst (λ (now : ℕ). Rests terms now talk.steps) (sym like.now) rests)
+      subst (λ (kept : List ℕ). ¬ HasFirst (IsFrame hears_so) kept) (sym ke) front, subst (λ (now : ℕ). Rests terms now talk.steps) (sym like.now) rests)

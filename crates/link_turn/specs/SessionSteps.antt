@@ -3,6 +3,7 @@ use Rattle.std.specs.Prelude.{◌≡◌, ◌≢◌, ⊤, ℕ, ◌+◌, ◌<◌, 
 use Rattle.gate_entries.specs.declared.passing.Passing.{Passing}
 use Rattle.gate_entries.specs.declared.passing.Passing.TheVariants.{Up, Returned}
 use Rattle.gate_entries.specs.declared.recorded.Recorded.{Recorded}
+use Rattle.link_core.specs.Grammar.{IsFrame, HasFirst}
 use Rattle.link_core.specs.Streams.{AreFrames}
 use Rattle.link_core.specs.declared.heard.Heard.{Heard}
 use Rattle.link_core.specs.declared.out.Out.{Out}
@@ -190,7 +191,8 @@ module _ {C : Type 0} (hears_so : List ℕ → Heard → Type 0) (refuses : List
   -- Where a session stands that wished something, by the talk so far.
   abbrev pub StandsIn : Phase → Wish → Talk → Session C → Type 0
   StandsIn Fresh wish talk session = (wish ≡ wish_is.Listen) × (talk ≡ no_talk) × IsNew core terms session
-  StandsIn Listening wish talk session = (wish ≡ wish_is.Listen) × IsReady talk session × Frames talk session × Rests terms session.latest talk.steps
+  StandsIn Listening wish talk session =
+      (wish ≡ wish_is.Listen) × IsReady talk session × Frames talk session × (¬ HasFirst (IsFrame hears_so) session.kept) × Rests terms session.latest talk.steps
   StandsIn (phase_is.Saying saying) wish talk session = (out : Out) × (wish ≡ wish_is.Say (said core out)) × Speaks saying out talk session
   StandsIn (phase_is.Recording recording) wish talk session = (kept : Recorded) × (wish ≡ wish_is.Perform kept) × Records recording kept talk session
   StandsIn ComingUp wish talk session = (wish ≡ wish_is.Pass (Up terms.link)) × Owes come_up None talk session × Frames talk session
