@@ -189,3 +189,7 @@ module _ {C : Type 0} (hears_so : List ℕ → Heard → Type 0) (refuses : List
       → StandsThen hears_so refuses said core terms None (with_step (hears heard) talk) s
   faces_ready heard talk s f ue le is =
       heard_ready hears_so refuses said core terms heard talk s s (record { core = refl; terms = refl; up = refl; now = refl; spoke = refl; found = λ yes. yes }) f refl refl ue (sym le) is
+
+  pub faces_frames : (heard : Heard) (talk : Talk) (s t : Session C) → Faces hears_so refuses said core terms heard talk s → t.kept ≡ s.kept
+      → Frames hears_so refuses said core terms (with_step (hears heard) talk) t
+  faces_frames heard talk s t f ke = subst (λ (kept : List ℕ). AreFrames hears_so talk.heard (heards_in talk.steps ++ heard ∷ []) kept) (sym ke) f.frames

@@ -12,7 +12,10 @@ use Rattle.link_core.specs.declared.out.Out.{Out}
 use Rattle.link_turn.specs.Steps.{Step, heards_in, hears}
 use Rattle.link_turn.specs.Back.{open_login, in_use, is_up, last_said, found_none}
 use Rattle.link_turn.specs.Due.{due, nothing}
-use Rattle.link_turn.specs.Session.{Talk, Rests, IsLate, Waits, NoneIsLate, IsBounded}
+use Rattle.std.specs.Prelude.{find, option_map, ◌-◌, ◌&&◌, not, nat_lt, nat_le}
+use Rattle.std.proofs.lemmas.Bool.{cases_Bool, ltb-true, ltb-false, leb-false, false≢true}
+use Rattle.std.proofs.lemmas.List.Elements.{All-nil, All-cons, Contains-append_left, Contains-append_right, Contains-push}
+use Rattle.link_turn.specs.Session.{Talk, Rests, IsLate, IsTimely, Waits, NoneIsLate, is_late}
 use Rattle.link_turn.specs.SessionSteps.{Agrees, Keeps, Frames, Holds, IsReady, Ends, Heeds, Faces, WasSilent, Stands, StandsIn, StandsBehind, with_handled, with_step}
 use Rattle.link_turn.specs.Talk.{IsIdle, IsUnanswered, IsCause}
 use Rattle.link_turn.specs.declared.end_cause.EndCause.{EndCause}
@@ -152,3 +155,59 @@ module _ {C : Type 0} (hears_so : List ℕ → Heard → Type 0) (refuses : List
       subst (λ (p : Phase). StandsIn hears_so refuses said core terms p wish talk t) (sym pe)
       (we, ready_same hears_so refuses said core terms talk s t like ie le r, subst (λ (kept : List ℕ). AreFrames hears_so talk.heard (heards_in talk.steps) kept) (sym ke) f,
       subst (λ (kept : List ℕ). ¬ HasFirst (IsFrame hears_so) kept) (sym ke) front, subst (λ (now : ℕ). Rests terms now talk.steps) (sym like.now) rests)
+
+-- ---- what waits too long
+
+contains_behind : (uses : List Submitted) (one first : Submitted) → Contains uses one → Contains (first ∷ uses) one
+contains_behind uses one first here = Contains-append_right (first ∷ []) uses one here
+
+contains_first : (uses : List Submitted) (first : Submitted) → Contains (first ∷ uses) first
+contains_first uses first = Contains-append_left (first ∷ []) uses first (Contains-push [] first)
+
+module _ {C : Type 0} where
+  abbrev too_long : Session C → Submitted → Bool
+  too_long s submitted = is_late s.latest s.terms.wait_ack submitted.asked
+
+  pub all_timely : (s : Session C) (uses : List Submitted) → option_map (λ submitted. submitted.asked) (find (too_long s) uses) ≡ None → All (IsTimely s) uses
+  all_timely s [] none = All-nil (IsTimely s)
+  all_timely s (submitted ∷ uses) none =
+      elim (cases_Bool (too_long s submitted)) [
+        | inl late ↦ absurd (let e : Some submitted.asked ≡ None = sym (rw late) ∙ none in cc)
+        | inr soon ↦
+            let here : IsTimely s submitted = omega (arith, ltb-false s.terms.wait_ack (s.latest - submitted.asked.said) soon) in
+            All-cons (IsTimely s) submitted uses here (all_timely s uses (rw soon at none))
+      ]
+
+  pub late_found : (s : Session C) (uses : List Submitted) (asked : Asked) → option_map (λ submitted. submitted.asked) (find (too_long s) uses) ≡ Some asked
+      → ((message : ℕ) × Contains uses (record { message = message; asked = asked })) × IsLate s asked
+  late_found s [] asked found = absurd (let e : None ≡ Some asked = found in cc)
+  late_found s (submitted ∷ uses) asked found =
+      elim (cases_Bool (too_long s submitted)) [
+        | inl late ↦
+            let e : Some submitted.asked ≡ Some asked = sym (rw late) ∙ found in
+            let same : submitted.asked ≡ asked = cc in
+            let here : IsLate s submitted.asked = omega (arith, ltb-true s.terms.wait_ack (s.latest - submitted.asked.said) late) in
+            subst (λ (a : Asked). ((message : ℕ) × Contains (submitted ∷ uses) (record { message = message; asked = a })) × IsLate s a) same
+            ((submitted.message, contains_first uses submitted), here)
+        | inr soon ↦
+            let rest = late_found s uses asked (rw soon at found) in
+            ((rest.0.0, contains_behind uses (record { message = rest.0.0; asked = asked }) submitted rest.0.1), rest.1)
+      ]
+
+-- ---- by the tests of the clock and of the window
+
+pub taken_so : (up searched : Bool) (len window : ℕ) → (up && (not searched && nat_lt len window)) ≡ false → len ≤ window → up ≡ true → (len ≡ window) ⊎ (searched ≡ true)
+taken_so up true len window none few is = inr refl
+taken_so false false len window none few is = absurd (false≢true is)
+taken_so true false len window none few is = let most = ltb-false len window none in inl (omega (arith, most, few))
+
+pub silence_so : (up : Bool) (keepalive now last : ℕ) → (up && (nat_lt 0 keepalive && nat_le keepalive (now - last))) ≡ false → up ≡ true → (keepalive ≡ 0) ⊎ (now < last + keepalive)
+silence_so false keepalive now last none is = absurd (false≢true is)
+silence_so true keepalive now last none is =
+    elim (cases_Bool (nat_lt 0 keepalive)) [
+      | inl some ↦
+          let k = ltb-true 0 keepalive some in
+          let soon = leb-false keepalive (now - last) (rw some at none) in
+          inr (omega (arith, k, soon))
+      | inr never ↦ let k = ltb-false 0 keepalive never in inl (omega (arith, k))
+    ]

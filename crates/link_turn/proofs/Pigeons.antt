@@ -1,6 +1,6 @@
 -- Tags that are tried one after the other: among one more than are in use, one is free.
 use Rattle.std.proofs.Common.{◌≡◌, ◌≢◌, ◌∙◌, refl, sym, ap, subst, ℕ, zero, suc, ◌+◌, ◌<◌, ◌≤◌, Bool, true, false, not, cond, inl, inr, ◌⊎◌, List, [], ◌∷◌, ◌++◌, length, arith}
-use Rattle.std.specs.Prelude.{◌==◌, filter, find, Option, Some, None}
+use Rattle.std.specs.Prelude.{◌==◌, ◌↔◌, IsTrue, filter, find, Option, Some, None}
 use Rattle.std.specs.List.{list_any}
 use Rattle.std.proofs.lemmas.Bool.{cases_Bool, cases_eq, eqb-true, false≢true}
 use Rattle.link_core.specs.Tags.{nth_tag, AreTags}
@@ -32,7 +32,7 @@ free_or_used tag uses =
       | inr free ↦ inl (any_free tag uses free)
     ]
 
-length-without : (tag : ℕ) (uses : List Submitted) → length (without_tag tag uses) ≤ length uses
+pub length-without : (tag : ℕ) (uses : List Submitted) → length (without_tag tag uses) ≤ length uses
 length-without tag [] = omega arith
 length-without tag (submitted ∷ uses) =
     let rest = length-without tag uses in
@@ -114,6 +114,10 @@ tag_is_free next tags holds first uses tag are few used is =
           absurd (omega (arith, many))
     ]
 
+pub free_test : (r : Bool) (tag : ℕ) (uses : List Submitted) → r ≡ list_any (has_tag tag) uses → IsTrue (not r) ↔ IsFree tag uses
+free_test true tag uses is = ((λ t. absurd t), λ free. absurd (any_used tag uses (sym is) free))
+free_test false tag uses is = ((λ t. any_free tag uses (sym is)), λ free. tt)
+
 -- so many tags were tried, all of them in use, and the next one comes behind them
 pub record Tried (next : Option ℕ → ℕ) (last : Option ℕ) (count : ℕ) (uses : List Submitted) : Type 0 where
   pub first : ℕ
@@ -130,7 +134,7 @@ none_tried next last uses tag =
       tag = tag;
     }
 
-pub one_tried : (next : Option ℕ → ℕ) (last : Option ℕ) (count tag : ℕ) (uses : List Submitted) → Tried next last count uses → tag ≡ next last → list_any (has_tag tag) uses ≡ true
+pub one_tried : (next : Option ℕ → ℕ) (last : Option ℕ) (count tag : ℕ) (uses : List Submitted) → Tried next last count uses → tag ≡ next last → ¬ IsFree tag uses
     → Tried next (Some tag) (count + 1) uses
 one_tried next last count tag uses t is used =
     let then_ = next_tag_then next last (t.first + count) tag t.following is in record {
@@ -139,7 +143,7 @@ one_tried next last count tag uses t is used =
       used = λ i less. elim (lt_or_last i count less) [
         | inl below ↦ t.used i below
         | inr here ↦ subst (λ (k : ℕ). ¬ IsFree (nth_tag next (t.first + k)) uses) (sym here)
-            (subst (λ (g : ℕ). ¬ IsFree g uses) (is ∙ t.following) (any_used tag uses used))
+            (subst (λ (g : ℕ). ¬ IsFree g uses) (is ∙ t.following) used)
       ];
       tag = then_.1;
     }

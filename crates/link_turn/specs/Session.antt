@@ -1,5 +1,5 @@
 -- A session by itself: what it keeps, what may be given to it, and how a talk goes on by what it was given.
-use Rattle.std.specs.Prelude.{◌≡◌, ◌⊎◌, ⊤, ℕ, ◌+◌, ◌<◌, ◌≤◌, ◌^◌, Bool, true, false, List, [], ◌∷◌, ◌++◌, length, take, map, All, IfSome, MatchOption, Option, Some, None, Result, Ok, Err}
+use Rattle.std.specs.Prelude.{◌≡◌, ◌⊎◌, ⊤, ℕ, ◌+◌, ◌-◌, nat_lt, ◌<◌, ◌≤◌, ◌^◌, Bool, true, false, List, [], ◌∷◌, ◌++◌, length, take, map, All, IfSome, MatchOption, Option, Some, None, Result, Ok, Err}
 use Rattle.std.specs.List.{Contains}
 use Rattle.exact_octets.specs.Fronts.{IsProperFront}
 use Rattle.gate_entries.specs.Entry.{IsEntry}
@@ -163,6 +163,10 @@ MayBeRecorded (wish_is.Perform kept) = IsEntry kept
 MayBeRecorded (wish_is.Pass brief) = ⊤
 MayBeRecorded (wish_is.TakeNext now) = ⊤
 MayBeRecorded (wish_is.Over cause) = ⊤
+
+-- whether something waits too long for its answer
+abbrev pub is_late : (now wait_ack : ℕ) → Asked → Bool
+is_late now wait_ack asked = nat_lt wait_ack (now - asked.said)
 
 module _ {C : Type 0} where
   -- What a session is that wished something.

@@ -78,7 +78,9 @@ impl<C: LinkCore> Session<C> {
         match outcome {
             Ok(_) => self.answer(&Out::MessageReply { tag, good: true }),
             Err(Refusal::Full { .. }) => self.answer(&Out::MessageReply { tag, good: false }),
-            Err(refusal) => self.end(end_by(refusal), None),
+            Err(Refusal::Disk) => self.end(EndCause::Disk, None),
+            Err(Refusal::NoRoute { .. }) => self.end(EndCause::Memory, None),
+            Err(Refusal::Memory) => self.end(EndCause::Memory, None),
         }
     }
 

@@ -113,12 +113,24 @@ impl<C: LinkCore> Session<C> {
         ensures kept { result ≡ None → self.new.kept ≡ self.old.kept }
         ensures law { steps.Always (λ core terms talk. steps.Faces C.hears C.refuses C.said core terms (Heard.Reply tag verdict) talk self.old → steps.StandsThen C.hears C.refuses C.said core terms result (steps.with_step (step.hears (Heard.Reply tag verdict)) talk) self.new) }
     {
-        let message = self.take_answered(tag)?;
-        Some(match verdict {
+        match self.take_answered(tag) {
+            Some(message) => Some(self.judged(message, verdict)),
+            None => None,
+        }
+    }
+
+    // The centre answered so to a message.
+    fn judged(&mut self, message: u64, verdict: Verdict) -> Wish
+        requires well { spec.IsWell C.tags C.next_tag self.old }
+        requires sound { IsSoundVerdict verdict }
+        ensures wished { spec.IsWished C.tags C.next_tag C.holds C.hears C.most result self.new }
+        ensures law { steps.Always (λ core terms talk. steps.Owes C.hears C.refuses C.said core terms (due.due_by_verdict verdict message) (Some message) talk self.old → steps.Frames C.hears C.refuses C.said core terms talk self.old → steps.IsToRecord C.hears C.refuses C.said core terms (Recording.End message) talk.steps → steps.Stands C.hears C.refuses C.said core terms result talk self.new) }
+    {
+        match verdict {
             Verdict::Good { foreign } => self.acknowledge(message, foreign),
             Verdict::Temporary { .. } => self.give_back(message),
             Verdict::Permanent { code } => self.reject(message, code),
-        })
+        }
     }
 
     // What has the tag wasn't understood.
@@ -128,12 +140,16 @@ impl<C: LinkCore> Session<C> {
         ensures kept { result ≡ None → self.new.kept ≡ self.old.kept }
         ensures law { steps.Always (λ core terms talk. (code : ℕ) → steps.Faces C.hears C.refuses C.said core terms (Heard.Nack tag code) talk self.old → steps.StandsThen C.hears C.refuses C.said core terms result (steps.with_step (step.hears (Heard.Nack tag code)) talk) self.new) }
     {
-        let message = self.take_answered(tag)?;
-        Some(self.give_back(message))
+        match self.take_answered(tag) {
+            Some(message) => Some(self.give_back(message)),
+            None => None,
+        }
     }
 
     // The message whose tag this is; the tag is no more in use.
     fn take_answered(&mut self, tag: u32) -> Option<u64>
+        requires well { spec.IsWell C.tags C.next_tag self.old }
+        ensures well { spec.IsWell C.tags C.next_tag self.new }
         ensures found { result ≡ back.message_under tag self.old.in_use.items }
         ensures same { self.new ≡ record self.old { in_use = self.new.in_use } }
         ensures others { self.new.in_use.items ≡ back.without_tag tag self.old.in_use.items }

@@ -1,17 +1,27 @@
 //! A session looks at what it keeps, and at the clock.
 
-ghost use Rattle.std.specs.Prelude.{◌≡◌, ◌↔◌, ◌≤◌, ◌-◌, ◌&&◌, not, nat_lt, nat_le, IsTrue, None, IfSome, All, drop, length};
+ghost use Rattle.std.specs.Prelude.{◌≡◌, ◌↔◌, ◌≤◌, ◌-◌, ◌&&◌, not, nat_lt, nat_le, IsTrue, None, IfSome, All, drop, find, length, option_map};
 ghost use Rattle.exact_octets.specs.Fronts.{IsProperFront};
 ghost use Rattle.link_core.specs.Grammar.{IsFrame, IsGrammar};
 ghost use Rattle.link_turn.specs.SessionSteps as steps;
 ghost use Rattle.link_turn.specs.Session as spec;
 
 use super::{Phase, Session};
-use crate::submitted::Asked;
+use crate::submitted::{Asked, Submitted};
 use crate::{EndCause, Wish};
 use kn_base::{Memory, Octets};
 use link_core::{Framed, LinkCore};
 use std::mem::replace;
+
+/// The first message that has waited for its answer for more than so many seconds.
+fn late_message(uses: &[Submitted], now: u64, wait_ack: u64) -> Option<Asked>
+    ensures { result ≡ option_map (λ submitted. submitted.asked) (find (λ submitted. spec.is_late now wait_ack submitted.asked) uses.now) }
+{
+    let found = uses
+        .iter()
+        .find(|submitted| now.saturating_sub(submitted.asked.said) > wait_ack);
+    Some(found?.asked)
+}
 
 impl<C: LinkCore> Session<C> {
     // Octets came.
@@ -80,14 +90,27 @@ impl<C: LinkCore> Session<C> {
         ensures wished { spec.IsWished C.tags C.next_tag C.holds C.hears C.most result self.new }
         ensures law { steps.Always (λ core terms talk. steps.IsReady C.hears C.refuses C.said core terms talk self.old → steps.Frames C.hears C.refuses C.said core terms talk self.old → steps.Stands C.hears C.refuses C.said core terms result talk self.new) }
     {
-        if let Some(asked) = self.overdue() {
-            let cause = EndCause::NoReply {
-                tag: asked.tag,
-                sent: asked.said,
-                now: self.latest,
-            };
-            return self.end(cause, None);
+        match self.overdue() {
+            Some(asked) => {
+                let cause = EndCause::NoReply {
+                    tag: asked.tag,
+                    sent: asked.said,
+                    now: self.latest,
+                };
+                self.end(cause, None)
+            }
+            None => self.carry_on(),
         }
+    }
+
+    // Nothing waits too long: asks what is due by the clock, or for a message, or listens.
+    fn carry_on(&mut self) -> Wish
+        requires well { spec.IsWell C.tags C.next_tag self.old }
+        requires front { IsProperFront (IsFrame C.hears) self.old.kept }
+        requires grammar { IsGrammar C.hears C.holds C.most }
+        ensures wished { spec.IsWished C.tags C.next_tag C.holds C.hears C.most result self.new }
+        ensures law { steps.Always (λ core terms talk. steps.IsReady C.hears C.refuses C.said core terms talk self.old → steps.Frames C.hears C.refuses C.said core terms talk self.old → spec.NoneIsLate self.old → steps.Stands C.hears C.refuses C.said core terms result talk self.new) }
+    {
         if self.is_silent() {
             return self.ask();
         }
@@ -118,12 +141,11 @@ impl<C: LinkCore> Session<C> {
         ensures none { result ≡ None → All (spec.IsTimely self.now) self.now.in_use.items }
         ensures some { IfSome result (λ asked. spec.Waits self.now asked × spec.IsLate self.now asked) }
     {
-        for submitted in &self.in_use {
-            if self.is_late(submitted.asked) {
-                return Some(submitted.asked);
-            }
-        }
-        None
+        late_message(
+            &self.in_use,
+            self.latest,
+            u64::from(self.terms.wait_ack),
+        )
     }
 
     // Whether something has waited too long.

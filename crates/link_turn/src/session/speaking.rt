@@ -8,7 +8,7 @@ ghost use Rattle.link_turn.specs.Steps as step;
 ghost use Rattle.sms_record.specs.declared.sms.Sms.{Sms};
 ghost use Rattle.link_core.specs.declared.out.Out.{Out as Outs};
 ghost use Rattle.link_turn.specs.declared.session.Saying.{Saying as Sayings};
-ghost use Rattle.std.specs.Prelude.{◌≡◌, ℕ};
+ghost use Rattle.std.specs.Prelude.{◌≡◌, ◌↔◌, ℕ, IsTrue};
 ghost use Rattle.link_turn.specs.Session as spec;
 
 use super::{Phase, Saying, Session};
@@ -124,13 +124,20 @@ impl<C: LinkCore> Session<C> {
         for tried in 0..self.in_use.len() {
             let tag = self.core.next_tag(self.last_tag);
             self.last_tag = Some(tag);
-            if !self.is_in_use(tag) {
+            if self.is_free(tag) {
                 return tag;
             }
         }
         let tag = self.core.next_tag(self.last_tag);
         self.last_tag = Some(tag);
         tag
+    }
+
+    // Whether no message has the tag.
+    fn is_free(&self, tag: u32) -> bool
+        ensures { IsTrue result ↔ IsFree tag self.now.in_use.items }
+    {
+        !self.is_in_use(tag)
     }
 
     // Whether a message has the tag.
