@@ -115,8 +115,8 @@ tag_is_free next tags holds first uses tag are few used is =
     ]
 
 pub free_test : (r : Bool) (tag : ℕ) (uses : List Submitted) → r ≡ list_any (has_tag tag) uses → IsTrue (not r) ↔ IsFree tag uses
-free_test true tag uses is = ((λ t. absurd t), λ free. absurd (any_used tag uses (sym is) free))
-free_test false tag uses is = ((λ t. any_free tag uses (sym is)), λ free. tt)
+free_test true tag uses is = ((λ t. absurd (false≢true t)), λ free. absurd (any_used tag uses (sym is) free))
+free_test false tag uses is = ((λ t. any_free tag uses (sym is)), λ free. refl)
 
 -- so many tags were tried, all of them in use, and the next one comes behind them
 pub record Tried (next : Option ℕ → ℕ) (last : Option ℕ) (count : ℕ) (uses : List Submitted) : Type 0 where
