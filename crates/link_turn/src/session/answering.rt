@@ -77,10 +77,22 @@ impl<C: LinkCore> Session<C> {
     {
         match outcome {
             Ok(_) => self.answer(&Out::MessageReply { tag, good: true }),
-            Err(Refusal::Full { .. }) => self.answer(&Out::MessageReply { tag, good: false }),
-            Err(Refusal::Disk) => self.end(EndCause::Disk, None),
-            Err(Refusal::NoRoute { .. }) => self.end(EndCause::Memory, None),
-            Err(Refusal::Memory) => self.end(EndCause::Memory, None),
+            Err(refusal) => self.refused(tag, refusal),
+        }
+    }
+
+    // To a message that came, which was refused.
+    fn refused(&mut self, tag: u32, refusal: Refusal) -> Wish
+        requires well { spec.IsWell C.tags C.next_tag self.old }
+        requires tag { C.holds tag }
+        ensures wished { spec.IsWished C.tags C.next_tag C.holds C.hears C.most result self.new }
+        ensures law { steps.Always (λ core terms talk. (kept : Recorded) → steps.Records C.hears C.refuses C.said core terms (Recording.Message tag) kept talk self.old → steps.StandsBehind C.hears C.refuses C.said core terms result (steps.with_step (step.records kept (Err refusal)) talk) self.new) }
+    {
+        match refusal {
+            Refusal::Full { .. } => self.answer(&Out::MessageReply { tag, good: false }),
+            Refusal::Disk => self.end(EndCause::Disk, None),
+            Refusal::NoRoute { .. } => self.end(EndCause::Memory, None),
+            Refusal::Memory => self.end(EndCause::Memory, None),
         }
     }
 
@@ -109,12 +121,25 @@ impl<C: LinkCore> Session<C> {
         ensures law { steps.Always (λ core terms talk. (time : ℕ) → steps.WasTaken C.hears C.refuses C.said core terms time talk self.old → steps.StandsBehind C.hears C.refuses C.said core terms result (steps.with_step (step.takes time outcome) talk) self.new) }
     {
         match outcome {
-            Ok(Some(taken)) => self.given(taken),
-            Ok(None) => {
+            Ok(taken) => self.found(taken),
+            Err(refusal) => self.end(end_by(refusal), None),
+        }
+    }
+
+    // The store answered with a message, or that it has none.
+    fn found(&mut self, taken: Option<Taken>) -> Wish
+        requires well { spec.IsWell C.tags C.next_tag self.old }
+        requires room { spec.HasRoom self.old }
+        requires given { spec.MayBeGiven C.kind self.old.latest self.old.in_use.items (Ok taken) }
+        ensures wished { spec.IsWished C.tags C.next_tag C.holds C.hears C.most result self.new }
+        ensures law { steps.Always (λ core terms talk. (time : ℕ) → steps.WasTaken C.hears C.refuses C.said core terms time talk self.old → steps.StandsBehind C.hears C.refuses C.said core terms result (steps.with_step (step.takes time (Ok taken)) talk) self.new) }
+    {
+        match taken {
+            Some(taken) => self.given(taken),
+            None => {
                 self.searched = true;
                 self.look()
             }
-            Err(refusal) => self.end(end_by(refusal), None),
         }
     }
 

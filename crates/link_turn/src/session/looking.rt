@@ -14,12 +14,13 @@ use link_core::{Framed, LinkCore};
 use std::mem::replace;
 
 /// The first message that has waited for its answer for more than so many seconds.
-fn late_message(uses: &[Submitted], now: u64, wait_ack: u64) -> Option<Asked>
+fn late_message(uses: &[Submitted], now: u64, wait_ack: u32) -> Option<Asked>
     ensures { result ≡ option_map (λ submitted. submitted.asked) (find (λ submitted. spec.is_late now wait_ack submitted.asked) uses.now) }
 {
+    let most = u64::from(wait_ack);
     let found = uses
         .iter()
-        .find(|submitted| now.saturating_sub(submitted.asked.said) > wait_ack);
+        .find(|submitted| now.saturating_sub(submitted.asked.said) > most);
     Some(found?.asked)
 }
 
@@ -141,11 +142,7 @@ impl<C: LinkCore> Session<C> {
         ensures none { result ≡ None → All (spec.IsTimely self.now) self.now.in_use.items }
         ensures some { IfSome result (λ asked. spec.Waits self.now asked × spec.IsLate self.now asked) }
     {
-        late_message(
-            &self.in_use,
-            self.latest,
-            u64::from(self.terms.wait_ack),
-        )
+        late_message(&self.in_use, self.latest, self.terms.wait_ack)
     }
 
     // Whether something has waited too long.

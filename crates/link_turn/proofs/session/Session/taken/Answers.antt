@@ -1,4 +1,4 @@
-use Rattle.std.proofs.Common.{[], subst, sym, refl, ap, ◌∙◌}
+use Rattle.std.proofs.Common.{[], subst, sym}
 use Rattle.std.specs.Prelude.{Option, Ok, Err, None}
 use Rattle.std.specs.Prelude.{Result}
 use Rattle.gate_model.specs.declared.reply.Refusal.{Refusal}
@@ -9,13 +9,13 @@ use Rattle.gate_store.specs.declared.taken.Taken.TheVariants as taken
 use Rattle.link_turn.specs.Steps.{takes}
 use Rattle.link_turn.specs.SessionSteps.{with_step, Ends, StandsBehind}
 use Rattle.link_turn.specs.declared.end_cause.EndCause.{EndCause}
-use Rattle.link_turn.proofs.Answering.{taken_none, taken_refused}
+use Rattle.link_turn.proofs.Answering.{taken_refused}
 use Rattle.link_turn.proofs.session.Session.taken.Goals as goal
 
-pub returns-in-Ok-None-clause-law : goal.returns-in-Ok-None-clause-law
-returns-in-Ok-None-clause-law g c = λ core terms talk time w.
-    subst (λ (o : Result (Option Taken) Refusal). StandsBehind g.C.LinkCore.hears g.C.LinkCore.refuses g.C.LinkCore.said core terms c.look.result (with_step (takes time o) talk) c.look.new.self) (sym (c.in-Ok-None.is ∙ ap Ok c.in-Ok-None.field-0-is))
-    (c.look.ensures.law core terms (with_step (takes time (Ok None)) talk) (taken_none g.C.LinkCore.hears g.C.LinkCore.refuses g.C.LinkCore.said core terms time talk c.args.self.now _ w refl refl refl refl refl refl refl) w.frames)
+pub returns-in-Ok-clause-law : goal.returns-in-Ok-clause-law
+returns-in-Ok-clause-law g c = λ core terms talk time w.
+    subst (λ (o : Result (Option Taken) Refusal). StandsBehind g.C.LinkCore.hears g.C.LinkCore.refuses g.C.LinkCore.said core terms c.found.result (with_step (takes time o) talk) c.found.new.self) (sym c.in-Ok.is)
+    (c.found.ensures.law core terms talk time w)
 
 pub returns-in-Err-clause-law : goal.returns-in-Err-clause-law
 returns-in-Err-clause-law g c = λ core terms talk time w.
