@@ -20,10 +20,13 @@ use Rattle.link_turn.specs.Steps.{Step, hears, says, records, passes, takes, lea
 use Rattle.link_turn.specs.Back.{open_login, in_use, held, held_recorded, is_up, last_said, found_none, before_end, without_any, without_message, ended_by, given_back_by, is_nothing, IsFree, IsAmong}
 use Rattle.link_turn.specs.Due.{Due, nothing, come_up, give_back, send, say, over, due, due_by_entry, due_by_outcome, answer_to, answer_without_room, end_by, entry_for, passing_for}
 use Rattle.link_turn.specs.Session.{Talk, messages}
-use Rattle.link_turn.specs.SessionSteps.{AreApart, IsLast, with_step, message_ended, Agrees, Keeps, Frames, Holds, IsReady, Owes, Ends, IsToRecord, IsToSay, Speaks, Records, WasTaken, Stands, StandsIn}
+use Rattle.link_turn.specs.SessionSteps.{AreApart, IsLast, with_step, message_ended, Agrees, Keeps, Frames, Holds, IsReady, Owes, Ends, IsToRecord, IsToSay, Speaks, Records, WasTaken, HasPassedIn, passed_step}
 use Rattle.link_turn.specs.Talk.{AreSteps, AreReadings, MayCome, IsCause}
 use Rattle.link_turn.specs.declared.end_cause.EndCause.{EndCause}
 use Rattle.link_turn.specs.declared.end_cause.EndCause.TheVariants as end_is
+use Rattle.link_turn.specs.declared.session.Phase.{Phase}
+use Rattle.link_turn.specs.declared.session.Phase.TheVariants.{Fresh, Listening, ComingUp, GivingBack, Taking, Leaving, Done}
+use Rattle.link_turn.specs.declared.session.Phase.TheVariants as phase_is
 use Rattle.link_turn.specs.declared.session.Recording.{Recording}
 use Rattle.link_turn.specs.declared.session.Recording.TheVariants as recording_is
 use Rattle.link_turn.specs.declared.session.Saying.TheVariants as saying_is
@@ -342,3 +345,17 @@ module _ {C : Type 0} (hears_so : List ℕ → Heard → Type 0) (refuses : List
         to_say = (sms, refl, refl, unused, few, all);
         whole = w.ready.whole;
       }
+
+  -- what has passed where it neither comes up nor leaves
+  pub passed_else : (phase : Phase) (brief : Passing) (talk : Talk) (s : Session C) → HasPassedIn hears_so refuses said core terms phase brief talk s → (phase ≡ ComingUp → ⊥)
+      → ((cause : EndCause) → (one : Option ℕ) → phase ≡ Leaving cause one → ⊥)
+      → IsReady hears_so refuses said core terms (with_step (passed_step phase brief) talk) s × Frames hears_so refuses said core terms (with_step (passed_step phase brief) talk) s
+  passed_else (GivingBack message) brief talk s passed up leaving = (gave_back message brief talk s passed.1 passed.0, passed.2)
+  passed_else ComingUp brief talk s passed up leaving = absurd (up refl)
+  passed_else (Leaving cause one) brief talk s passed up leaving = absurd (leaving cause one refl)
+  passed_else Fresh brief talk s passed up leaving = absurd passed
+  passed_else Listening brief talk s passed up leaving = absurd passed
+  passed_else (phase_is.Saying saying) brief talk s passed up leaving = absurd passed
+  passed_else (phase_is.Recording recording) brief talk s passed up leaving = absurd passed
+  passed_else Taking brief talk s passed up leaving = absurd passed
+  passed_else Done brief talk s passed up leaving = absurd passed

@@ -194,6 +194,14 @@ module _ {C : Type 0} where
             ((rest.0.0, contains_behind uses (record { message = rest.0.0; asked = asked }) submitted rest.0.1), rest.1)
       ]
 
+module _ {C : Type 0} where
+  pub late_some : (s : Session C) (uses : List Submitted) (r : Option Asked) → uses ≡ s.in_use.items → r ≡ option_map (λ submitted. submitted.asked) (find (too_long s) uses)
+      → IfSome r (λ asked. Waits s asked × IsLate s asked)
+  late_some s uses None ue is = tt
+  late_some s uses (Some asked) ue is =
+      let q = late_found s uses asked (sym is) in
+      (inr (subst (λ (us : List Submitted). (message : ℕ) × Contains us (record { message = message; asked = asked })) ue q.0), q.1)
+
 -- ---- by the tests of the clock and of the window
 
 pub taken_so : (up searched : Bool) (len window : ℕ) → (up && (not searched && nat_lt len window)) ≡ false → len ≤ window → up ≡ true → (len ≡ window) ⊎ (searched ≡ true)

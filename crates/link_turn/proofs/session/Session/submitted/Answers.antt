@@ -1,4 +1,4 @@
-use Rattle.std.proofs.Common.{[], ap}
+use Rattle.std.proofs.Common.{[], refl}
 use Rattle.link_core.specs.declared.out.Out.TheVariants.{Submit}
 use Rattle.link_turn.specs.Steps.{says}
 use Rattle.link_turn.specs.SessionSteps.{with_step}
