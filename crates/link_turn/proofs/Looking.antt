@@ -202,6 +202,10 @@ module _ {C : Type 0} where
       let q = late_found s uses asked (sym is) in
       (inr (subst (λ (us : List Submitted). (message : ℕ) × Contains us (record { message = message; asked = asked })) ue q.0), q.1)
 
+  pub none_late : (s : Session C) (uses : List Submitted) (r : Option Asked) → uses ≡ s.in_use.items → r ≡ option_map (λ submitted. submitted.asked) (find (too_long s) uses)
+      → r ≡ None → All (IsTimely s) s.in_use.items
+  none_late s uses r ue is none = subst (λ (us : List Submitted). All (IsTimely s) us) ue (all_timely s uses (sym is ∙ none))
+
 -- ---- by the tests of the clock and of the window
 
 pub taken_so : (up searched : Bool) (len window : ℕ) → (up && (not searched && nat_lt len window)) ≡ false → len ≤ window → up ≡ true → (len ≡ window) ⊎ (searched ≡ true)
