@@ -18,8 +18,8 @@ use Rattle.std.proofs.lemmas.Bool.{false≢true}
 use Rattle.link_turn.specs.Back.{held, is_up}
 use Rattle.link_turn.specs.Due.{Due, come_up, give_back, due, out_for}
 use Rattle.link_turn.specs.Session.{Talk, no_talk, messages, IsNew, GoesOn, spoken_in, heard_by, spoken_by, deeds_by, MayBeCut, IsCutShort}
-use Rattle.link_turn.specs.SessionSteps.{AreApart, IsAnswer, IsLast, with_step, handled, with_handled, message_said, message_ended, passed_step, Agrees, Keeps, Frames, Holds, IsReady, Owes, Ends, Begins, Heeds, IsToSay, Speaks, WasSaid, Records, WasRecorded, HasPassedIn, WasTaken, IsLeaving, Stands, StandsIn, StandsBehind, StandsOn}
-use Rattle.link_turn.specs.Talk.{AreReadings, IsCause, BreaksOff, IsIdle}
+use Rattle.link_turn.specs.SessionSteps.{AreApart, IsAnswer, IsLast, with_step, handled, with_handled, message_said, message_ended, passed_step, Agrees, Keeps, Frames, Holds, IsReady, Owes, Ends, Begins, Heeds, IsToSay, Speaks, WasSaid, Records, WasRecorded, HasPassedIn, WasTaken, IsLeaving, IsOver, Stands, StandsIn, StandsBehind, StandsOn}
+use Rattle.link_turn.specs.Talk.{AreReadings, IsCause, BreaksOff, IsIdle, LinkTalk}
 use Rattle.link_turn.specs.declared.end_cause.EndCause.{EndCause}
 use Rattle.link_turn.specs.declared.end_cause.EndCause.TheVariants as end_is
 use Rattle.link_turn.specs.declared.given.Given.{Given}
@@ -78,14 +78,57 @@ module _ {C : Type 0} (hears_so : List ℕ → Heard → Type 0) (refuses : List
   abbrev On : Wish → Given → ℕ → List ℕ → Talk → Wish → Session C → Type 0
   On = StandsOn hears_so refuses said core terms
 
+  abbrev TalkOf : Talk → EndCause → Type 0
+  TalkOf talk cause = LinkTalk hears_so refuses (said core) terms talk.heard (spoken_in (said core) talk) talk.readings (deeds_in talk.steps) cause
+
+  over_talk : (cause : EndCause) (talk : Talk) (s : Session C) → IsOver hears_so refuses said core terms cause talk s → TalkOf talk cause
+  over_talk cause talk s o = record {
+    steps = talk.steps;
+    rest = o.rest;
+    cut = talk.cut;
+    each = o.agrees.each;
+    frames = o.frames;
+    says = refl;
+    timed = o.agrees.timed;
+    done = refl;
+    caused = o.caused;
+    none_held = o.none_held;
+    is_down = o.is_down;
+  }
+
+  -- what a session leaves that is over is the talk of a link
+  ended_talk : (phase : Phase) (next : Wish) (cause : EndCause) (talk : Talk) (s : Session C) → StandsIn hears_so refuses said core terms phase next talk s → next ≡ wish_is.Over cause → TalkOf talk cause
+  ended_talk Done next cause talk s stands is =
+      let both : wish_is.Over stands.0 ≡ wish_is.Over cause = sym stands.1 ∙ is in
+      let same : stands.0 ≡ cause = cc in
+      subst (TalkOf talk) same (over_talk stands.0 talk s stands.2)
+  ended_talk Fresh next cause talk s stands is = absurd (let e : wish_is.Listen ≡ wish_is.Over cause = sym stands.0 ∙ is in cc)
+  ended_talk Listening next cause talk s stands is = absurd (let e : wish_is.Listen ≡ wish_is.Over cause = sym stands.0 ∙ is in cc)
+  ended_talk (phase_is.Saying saying) next cause talk s stands is = absurd (let e : wish_is.Say (said core stands.0) ≡ wish_is.Over cause = sym stands.1 ∙ is in cc)
+  ended_talk (phase_is.Recording recording) next cause talk s stands is = absurd (let e : wish_is.Perform stands.0 ≡ wish_is.Over cause = sym stands.1 ∙ is in cc)
+  ended_talk ComingUp next cause talk s stands is = absurd (let e : wish_is.Pass (Up terms.link) ≡ wish_is.Over cause = sym stands.0 ∙ is in cc)
+  ended_talk (GivingBack message) next cause talk s stands is = absurd (let e : wish_is.Pass (Returned message) ≡ wish_is.Over cause = sym stands.0 ∙ is in cc)
+  ended_talk Taking next cause talk s stands is = absurd (let e : wish_is.TakeNext s.latest ≡ wish_is.Over cause = sym stands.0 ∙ is in cc)
+  ended_talk (Leaving why one) next cause talk s stands is = absurd (let e : wish_is.Pass stands.0 ≡ wish_is.Over cause = sym stands.1 ∙ is in cc)
+
   pub stands_on : (wish next : Wish) (given : Given) (now : ℕ) (cut : List ℕ) (talk later : Talk) (s : Session C) → GoesOn (said core) wish given now cut talk later
       → Stands hears_so refuses said core terms next later s → On wish given now cut talk next s
-  stands_on wish next given now cut talk later s g stands = record { later = later; goes = g; stands = stands }
+  stands_on wish next given now cut talk later s g stands = record {
+    later = later;
+    goes = g;
+    stands = stands;
+    ended = λ cause is. ended_talk s.phase next cause later s stands is;
+  }
 
   pub stands_on_behind : (wish next : Wish) (given : Given) (now : ℕ) (cut : List ℕ) (talk later : Talk) (s : Session C) → GoesOn (said core) wish given now cut talk later
       → StandsBehind hears_so refuses said core terms next later s → On wish given now cut talk next s
   stands_on_behind wish next given now cut talk later s g stands =
-      record { later = with_handled stands.0 later; goes = goes_behind (said core) wish given now cut talk later stands.0 g; stands = stands.1 }
+      let more : Talk = with_handled stands.0 later in record {
+        later = more;
+        goes = goes_behind (said core) wish given now cut talk later stands.0 g;
+        stands = stands.1;
+        ended = λ cause is. ended_talk s.phase next cause more s stands.1 is;
+      }
 
   -- ---- one reading more
 

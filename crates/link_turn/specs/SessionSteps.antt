@@ -9,12 +9,12 @@ use Rattle.link_core.specs.declared.heard.Heard.{Heard}
 use Rattle.link_core.specs.declared.out.Out.{Out}
 use Rattle.link_core.specs.declared.out.Out.TheVariants as out_is
 use Rattle.sms_record.specs.declared.sms.Sms.{Sms}
-use Rattle.link_turn.specs.Steps.{Step, hears, says, records, passes, takes, leaves, heards_in, times_in, times_of_entry, times_of_out}
+use Rattle.link_turn.specs.Steps.{Step, hears, says, records, passes, takes, leaves, heards_in, times_in, times_of_entry, times_of_out, deeds_in}
 use Rattle.link_turn.specs.Back.{open_login, in_use, held, is_up, last_said, found_none, before_end, without_any, ended_by, IsFree, IsAmong}
 use Rattle.link_turn.specs.Due.{Due, nothing, come_up, acknowledge, reject, give_back, send, say, over, due, answer_to, entry_for}
-use Rattle.link_turn.specs.Session.{Talk, no_talk, messages, Rests, IsNew, GoesOn}
+use Rattle.link_turn.specs.Session.{Talk, no_talk, messages, Rests, IsNew, GoesOn, spoken_in}
 use Rattle.link_turn.specs.declared.given.Given.{Given}
-use Rattle.link_turn.specs.Talk.{AreSteps, AreReadings, IsCause}
+use Rattle.link_turn.specs.Talk.{AreSteps, AreReadings, IsCause, LinkTalk}
 use Rattle.link_turn.specs.declared.end_cause.EndCause.{EndCause}
 use Rattle.link_turn.specs.declared.end_cause.EndCause.TheVariants as end_is
 use Rattle.link_turn.specs.declared.session.Phase.{Phase}
@@ -296,11 +296,13 @@ module _ {C : Type 0} (hears_so : List ℕ → Heard → Type 0) (refuses : List
     pub unsearched : session.searched ≡ false
     pub timed : AreReadings (times_in talk.steps ++ time ∷ []) talk.readings
 
-  -- where a session stands by what was given behind a wish: the talk goes on so
+  -- Where a session stands by what was given behind a wish: the talk goes on so, and where the session is over, it is the talk of a link.
   pub record StandsOn (wish : Wish) (given : Given) (now : ℕ) (cut : List ℕ) (talk : Talk) (next : Wish) (session : Session C) : Type 0 where
     pub later : Talk
     pub goes : GoesOn (said core) wish given now cut talk later
     pub stands : Stands next later session
+    pub ended : (cause : EndCause) → next ≡ wish_is.Over cause
+        → LinkTalk hears_so refuses (said core) terms later.heard (spoken_in (said core) later) later.readings (deeds_in later.steps) cause
 
 -- the step by which something has passed
 abbrev pub passed_step : Phase → Passing → Step
