@@ -9,3 +9,4 @@ pub mod Answering
 pub mod Looking
 pub mod Going
 pub mod Checks
+pub mod Stored

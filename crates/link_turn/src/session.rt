@@ -172,6 +172,10 @@ impl<C: LinkCore> Session<C> {
     }
 
     /// Takes what came of the last wish, and gives the next one, at the reading `now` of the clock in Unix seconds.
+    ///
+    /// Begin comes first. Behind Listen comes Heard, Quiet, End, Fault, Starved or Stop; behind Say Said, SayFault or Starved; behind Perform
+    /// Answered, behind Pass Passed, behind TakeNext Taken; behind Over nothing. Whatever steps led to where the session is, they go on by what was
+    /// given, and where it is over they are the talk of a link.
     pub fn next(&mut self, given: Given, now: u64) -> Wish
         requires session { spec.IsSession C.tags C.next_tag C.holds self.old }
         requires fits { spec.Fits C.kind self.old given now }
