@@ -10,3 +10,4 @@ pub mod Looking
 pub mod Going
 pub mod Checks
 pub mod Stored
+pub mod Chosen
