@@ -1,0 +1,13 @@
+pub mod Uses
+pub mod Readings
+pub mod Pigeons
+pub mod Keeping
+pub mod Leaving
+pub mod Speaking
+pub mod Handling
+pub mod Answering
+pub mod Looking
+pub mod Going
+pub mod Checks
+pub mod Stored
+pub mod Chosen

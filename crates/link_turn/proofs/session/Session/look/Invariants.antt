@@ -1,0 +1,20 @@
+use Rattle.std.proofs.Common.{List, length}
+use Rattle.link_core.specs.declared.heard.Heard.{Heard}
+use Rattle.link_turn.specs.Session.{IsWell}
+use Rattle.link_turn.specs.SessionSteps.{Always, IsReady, Frames, with_handled}
+use Rattle.link_turn.proofs.session.Session.look.Given as goal
+
+-- some frames were handled, and nothing is due behind them
+abbrev pub invariant-loop-heard : goal.invariant-loop-heard
+invariant-loop-heard g l =
+    let hears = g.C.LinkCore.hears in
+    let refuses = g.C.LinkCore.refuses in
+    let said = g.C.LinkCore.said in
+    record {
+      well : IsWell g.C.LinkCore.tags g.C.LinkCore.next_tag l.self;
+      law : Always (λ core terms talk. IsReady hears refuses said core terms talk l.initial.self → Frames hears refuses said core terms talk l.initial.self
+          → (heards : List Heard) × IsReady hears refuses said core terms (with_handled heards talk) l.self × Frames hears refuses said core terms (with_handled heards talk) l.self);
+    }
+
+abbrev pub decreases-loop-heard : goal.decreases-loop-heard
+decreases-loop-heard g l = length l.self.kept

@@ -1,0 +1,6 @@
+pub mod Steps
+pub mod Back
+pub mod Due
+pub mod Talk
+pub mod Session
+pub mod SessionSteps
