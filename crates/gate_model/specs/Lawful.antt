@@ -18,7 +18,8 @@ use Rattle.gate_model.specs.declared.reply.Refusal.{Refusal}
 use Rattle.gate_model.specs.declared.reply.Refusal.TheVariants.{NoRoute, Full}
 use Rattle.gate_model.specs.declared.waiting.Waiting.{Waiting}
 use Rattle.gate_model.specs.Numbers.{is_held, value_under}
-use Rattle.gate_model.specs.State.{State, Job, flight}
+use Rattle.gate_model.specs.declared.job.Job.{Job}
+use Rattle.gate_model.specs.State.{State, flight}
 use Rattle.gate_model.specs.Fold.{Entry, recorded, passing}
 use Rattle.gate_model.specs.Routing.{due_time, link_for}
 
