@@ -1,3 +1,5 @@
+pub mod AwaitedLemmas
+pub mod DueLaws
 pub mod FatesLaws
 pub mod FlightLemmas
 pub mod LoadingLemmas

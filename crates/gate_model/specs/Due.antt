@@ -1,14 +1,12 @@
 -- What becomes of reports, by a history alone: which reports are open, which URLs are due, and which of them are still to be called.
-use Rattle.std.specs.Prelude.{◌≡◌, ℕ, ◌+◌, Bool, false, ◌&&◌, not, ◌==◌, List, [], ◌∷◌, ◌++◌, map, filter, drop, fold, Option, Some, None, if◌then◌else◌}
+use Rattle.std.specs.Prelude.{◌≡◌, ℕ, ◌+◌, Bool, false, ◌&&◌, not, ◌==◌, List, [], ◌∷◌, ◌++◌, map, filter, drop, fold, if◌then◌else◌}
 use Rattle.std.specs.List.{flat_map, list_any}
-use Rattle.std.specs.Option.{option_map_or}
 use Rattle.sms_record.specs.declared.sms.Sms.{Sms}
 use Rattle.dlr_table.specs.declared.awaited.Awaited.{Awaited}
 use Rattle.gate_entries.specs.Size.{parts_of}
-use Rattle.gate_entries.specs.declared.acked.Acked.{Acked}
 use Rattle.gate_entries.specs.declared.recorded.Recorded.{Recorded}
 use Rattle.gate_entries.specs.declared.recorded.Recorded.TheVariants as entry
-use Rattle.gate_model.specs.Fold.{is_last, is_awaited, awaited_as, called_url}
+use Rattle.gate_model.specs.Fold.{is_last, asked_by, called_url, if_any}
 use Rattle.gate_model.specs.Numbers.{value_under, numbered_from}
 use Rattle.gate_model.specs.State.{State, Lists, is_key}
 
@@ -18,18 +16,13 @@ messages_of start history = map (λ pair. (pair.0, pair.1.sms)) start.waiting ++
 
 -- ---- open reports
 
--- the message that an acknowledgement speaks of, where a report of it is awaited
-abbrev pub asked_by : List (ℕ × Sms) → Acked → List Awaited
-asked_by messages acked =
-    option_map_or (λ sms. if is_awaited acked.foreign sms then awaited_as acked.message sms ∷ [] else []) (value_under acked.message messages) []
-
 -- the reports that are open under a key behind an entry: a message that is to be reported comes last, and a report that none follows takes the
 -- oldest away
 abbrev pub open_behind : List (ℕ × Sms) → (smsc foreign : List ℕ) → List Awaited → Recorded → List Awaited
 open_behind messages smsc foreign open_before (entry.Acked acked) =
-    if is_key smsc foreign acked.smsc acked.foreign then open_before ++ asked_by messages acked else open_before
+    if is_key acked.smsc acked.foreign smsc foreign then open_before ++ asked_by acked (value_under acked.message messages) else open_before
 open_behind messages smsc foreign open_before (entry.Reported reported) =
-    if is_key smsc foreign reported.smsc reported.foreign && is_last reported.kind then drop 1 open_before else open_before
+    if is_key reported.smsc reported.foreign smsc foreign && is_last reported.kind then drop 1 open_before else open_before
 open_behind messages smsc foreign open_before other = open_before
 
 -- the same behind entries
@@ -42,16 +35,11 @@ open_reports start history = open_after (messages_of start history) start.awaite
 
 -- ---- due URLs
 
--- a URL, where there is one
-abbrev pub if_due : Option (List ℕ) → List (List ℕ)
-if_due None = []
-if_due (Some url) = url ∷ []
-
 -- the URLs that are due by entries: each calls that of its own message
 abbrev pub due_from : (birth : ℕ) → List (ℕ × Sms) → Lists → List Recorded → List (List ℕ)
 due_from birth messages lists [] = []
 due_from birth messages lists (kept ∷ entries) =
-    if_due (called_url birth (λ message. value_under message messages) lists kept)
+    if_any (called_url birth (λ message. value_under message messages) lists kept)
     ++ due_from birth messages (open_after messages lists (kept ∷ [])) entries
 
 -- the URLs that are due by a history, in their order
@@ -62,8 +50,8 @@ due birth start history = due_from birth (messages_of start history) start.await
 
 -- an entry says of a job that its URL was called, or that it won't be
 abbrev pub is_end_of_job : (job : ℕ) → Recorded → Bool
-is_end_of_job job (entry.Called called) = called.job == job
-is_end_of_job job (entry.CallDropped dropped) = dropped.job == job
+is_end_of_job job (entry.Called called) = job == called.job
+is_end_of_job job (entry.CallDropped dropped) = job == dropped.job
 is_end_of_job job other = false
 
 -- the URLs of a state's jobs, by their numbers

@@ -15,6 +15,7 @@ use Rattle.gate_entries.specs.declared.recorded.Recorded.{Recorded}
 use Rattle.gate_entries.specs.declared.recorded.Recorded.TheVariants as entry
 use Rattle.gate_entries.specs.declared.passing.Passing.{Passing}
 use Rattle.gate_entries.specs.declared.passing.Passing.TheVariants.{Up, Down, Took, Returned, TookJob, ReturnedJob, TookArrival, ReturnedArrival}
+use Rattle.gate_model.specs.declared.job.Job.{Job}
 use Rattle.gate_model.specs.declared.waiting.Waiting.{Waiting}
 use Rattle.gate_model.specs.Numbers.{value_under, without, with_change, numbered_from}
 use Rattle.gate_model.specs.State.{State, Lists, with_list}
@@ -52,12 +53,20 @@ leases message lease state = record state { waiting = with_change message (λ wa
 
 -- ---- jobs
 
--- a URL to be called gets the next number
+-- a URL that nobody has taken, nor given back
+abbrev pub new_job : List ℕ → Job
+new_job url = record { url = url; leased = false; returns = 0 }
+
+-- a URL, where there is one
+abbrev pub if_any : Option (List ℕ) → List (List ℕ)
+if_any None = []
+if_any (Some url) = url ∷ []
+
+-- a URL, where there is one, is to be called, and gets the next number
 abbrev pub calls : Option (List ℕ) → State → State
-calls None state = state
-calls (Some url) state = record state {
-  jobs = state.jobs ++ (state.last_job + 1, record { url = url; leased = false; returns = 0 }) ∷ [];
-  last_job = state.last_job + 1;
+calls url state = record state {
+  jobs = state.jobs ++ numbered_from (state.last_job + 1) (map new_job (if_any url));
+  last_job = state.last_job + length (if_any url);
 }
 
 -- a job is done with, and with it its lease ends
@@ -96,18 +105,17 @@ is_awaited foreign sms = is_filled foreign && asks_centre sms
 abbrev pub awaited_as : (message : ℕ) → Sms → Awaited
 awaited_as message sms = record { message = message; sms = record sms { body = [] } }
 
--- a message is awaited, last under a key
-abbrev pub awaits : (smsc foreign : List ℕ) → Awaited → State → State
-awaits smsc foreign awaited state = record state {
-  awaited = with_list smsc foreign (state.awaited smsc foreign ++ awaited ∷ []) state.awaited;
-  awaited_count = state.awaited_count + 1;
-}
+-- the message of which a centre's answer makes that a report is awaited, where there is one
+abbrev pub asked_by : Acked → Option Sms → List Awaited
+asked_by acked None = []
+asked_by acked (Some sms) = if is_awaited acked.foreign sms then awaited_as acked.message sms ∷ [] else []
 
--- a message that its centre took is awaited, where it is to be
-abbrev pub awaits_if_asked : Acked → Option Sms → State → State
-awaits_if_asked acked None state = state
-awaits_if_asked acked (Some sms) state =
-    if is_awaited acked.foreign sms then awaits acked.smsc acked.foreign (awaited_as acked.message sms) state else state
+-- messages are awaited, last under a key
+abbrev pub awaits : (smsc foreign : List ℕ) → List Awaited → State → State
+awaits smsc foreign more state = record state {
+  awaited = with_list smsc foreign (state.awaited smsc foreign ++ more) state.awaited;
+  awaited_count = state.awaited_count + length more;
+}
 
 -- the oldest message under a key is no longer awaited
 abbrev pub closes : (smsc foreign : List ℕ) → State → State
@@ -145,9 +153,10 @@ leases_arrival arrival leased state = record state { arrivals = with_change arri
 
 -- ---- entries
 
--- a centre took a message
+-- a centre took a message, which is awaited then, if it is to be
 abbrev pub acknowledges : Acked → State → State
-acknowledges acked state = awaits_if_asked acked (sms_of acked.message state) (record (ends acked.message state) { acked = state.acked + 1 })
+acknowledges acked state =
+    awaits acked.smsc acked.foreign (asked_by acked (sms_of acked.message state)) (record (ends acked.message state) { acked = state.acked + 1 })
 
 -- a message is given up
 abbrev pub rejects : (message : ℕ) → State → State

@@ -62,6 +62,16 @@ suits state (entry.Answered answered) = are_arrivals state answered.arrivals && 
 suits state (entry.Called called) = is_held called.job state.jobs
 suits state (entry.CallDropped dropped) = is_held dropped.job state.jobs
 
+-- the time of an entry that says what became of a message is a reading of the clock
+abbrev pub is_timed : Recorded → Bool
+is_timed (entry.Acked acked) = is_time acked.time
+is_timed (entry.Rejected rejected) = is_time rejected.time
+is_timed (entry.Reported reported) = is_time reported.time
+is_timed other = true
+
+abbrev pub IsTimed : Recorded → Type 0
+IsTimed kept = IsTrue (is_timed kept)
+
 -- sound: an entry of the grammar, which has the counts and the lengths, that suits the state
 abbrev pub IsSound : State → Recorded → Type 0
 IsSound state kept = IsEntry kept × IsTrue (suits state kept)
