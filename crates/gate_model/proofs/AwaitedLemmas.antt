@@ -1,10 +1,23 @@
 -- The messages of which reports are awaited, as lists under keys.
-use Rattle.std.proofs.Common.{◌≡◌, ◌≢◌, refl, sym, ap, ◌∙◌, subst, ℕ, ◌+◌, Bool, true, false, cond, List, [], ◌∷◌, ◌++◌, inl, inr}
+use Rattle.std.proofs.Common.{◌≡◌, ◌≢◌, refl, sym, ap, ◌∙◌, subst, ℕ, ◌+◌, ◌-◌, Bool, true, false, cond, List, [], ◌∷◌, ◌++◌, length, Option, Some, None, inl, inr}
+use Rattle.std.specs.Prelude.{drop, replicate, IsTrue}
+use Rattle.std.specs.Option.{option_map_or}
 use Rattle.std.proofs.lemmas.Bool.{cases_Bool, and_parts}
 use Rattle.std.proofs.lemmas.List.{append-nil}
 use Rattle.std.proofs.lemmas.Slice.Eq.{bytes_eq-Decides}
 use Rattle.dlr_table.specs.declared.awaited.Awaited.{Awaited}
-use Rattle.gate_model.specs.State.{Lists, is_key, with_list}
+use Rattle.dlr_table.specs.Reports.{oldest}
+use Rattle.gate_entries.specs.declared.acked.Acked.{Acked}
+use Rattle.gate_entries.specs.declared.recorded.Recorded.{Recorded}
+use Rattle.gate_entries.specs.declared.recorded.Recorded.TheVariants as entry
+use Rattle.gate_entries.specs.declared.reported.Reported.{Reported}
+use Rattle.sms_record.specs.declared.sms.Sms.{Sms}
+use Rattle.gate_model.specs.declared.arrival.Arrival.{Arrival}
+use Rattle.gate_model.specs.declared.job.Job.{Job}
+use Rattle.gate_model.specs.declared.waiting.Waiting.{Waiting}
+use Rattle.gate_model.specs.Fold.{awaits, calls, closes, counts_entry, hears, is_awaited, is_last, moves, sms_of}
+use Rattle.gate_model.specs.Gate.{is_awaited_in}
+use Rattle.gate_model.specs.State.{State, Lists, is_key, with_list, empty}
 
 -- lists that are the same under each key are the same
 pub same_lists : (a b : Lists) → ((smsc foreign : List ℕ) → a smsc foreign ≡ b smsc foreign) → a ≡ b
@@ -39,3 +52,50 @@ module _ (smsc foreign : List ℕ) where
 
   pub with_nothing_more : (lists : Lists) → with_list smsc foreign (lists smsc foreign ++ []) lists ≡ lists
   with_nothing_more lists = ap (λ list. with_list smsc foreign list lists) (append-nil (lists smsc foreign)) ∙ with_same_list lists
+
+-- messages that come last under a key, by the lists and the count that are then
+pub awaits_by : (state : State) (smsc foreign : List ℕ) (more : List Awaited) (lists : Lists) (count : ℕ)
+    → lists ≡ with_list smsc foreign (state.awaited smsc foreign ++ more) state.awaited → count ≡ state.awaited_count + length more
+    → record state { awaited = lists; awaited_count = count } ≡ awaits smsc foreign more state
+awaits_by state smsc foreign more lists count same counted = (λ i. record state { awaited = same i; awaited_count = counted i })
+
+-- the oldest under a key goes
+pub closes_by : (state : State) (smsc foreign : List ℕ) (lists : Lists) (count : ℕ)
+    → lists ≡ with_list smsc foreign (drop 1 (state.awaited smsc foreign)) state.awaited → count ≡ state.awaited_count - 1
+    → record state { awaited = lists; awaited_count = count } ≡ closes smsc foreign state
+closes_by state smsc foreign lists count same counted = (λ i. record state { awaited = same i; awaited_count = counted i })
+
+-- room that was made for a message that is to be awaited
+pub room_if_awaited : (acked : Acked) (state : State) (sms : Sms) (Room : Type 0) → Some sms ≡ sms_of acked.message state
+    → (IsTrue (is_awaited_in acked state) → Room) → IsTrue (is_awaited acked.foreign sms) → Room
+room_if_awaited acked state sms Room is room asked = room (subst (λ o. IsTrue (option_map_or (is_awaited acked.foreign) o false)) is asked)
+
+-- a state in which nothing has happened, by its parts
+pub empty_by : (links : ℕ) (waiting : List (ℕ × Waiting)) (arrivals : List (ℕ × Arrival)) (jobs : List (ℕ × Job)) (lists : Lists) (count : ℕ) (up : List Bool)
+    → waiting ≡ [] → arrivals ≡ [] → jobs ≡ [] → ((smsc foreign : List ℕ) → lists smsc foreign ≡ []) → count ≡ 0 → up ≡ replicate links false
+    → record (empty links) { waiting = waiting; arrivals = arrivals; jobs = jobs; awaited = lists; awaited_count = count; up = up } ≡ empty links
+empty_by links waiting arrivals jobs lists count up w a j l c u =
+    (λ i. record (empty links) { waiting = w i; arrivals = a i; jobs = j i; awaited = λ smsc foreign. l smsc foreign i; awaited_count = c i; up = u i })
+
+-- what a URL does and what is counted don't touch each other
+pub counts-calls : (url : Option (List ℕ)) (state : State) → calls url (counts_entry state) ≡ counts_entry (calls url state)
+counts-calls url state = refl
+
+-- an entry makes at most one job, so fewer were made than entries counted
+pub last_job-moves : (kept : Recorded) (state : State) → (moves kept state).last_job ≡ state.last_job
+last_job-moves (entry.Accept accept) state = refl
+last_job-moves (entry.Acked acked) state = refl
+last_job-moves (entry.Rejected rejected) state = refl
+last_job-moves (entry.Reported reported) state = heard (oldest (state.awaited reported.smsc reported.foreign))
+  where
+    heard : (found : Option Awaited) → (hears reported found state).last_job ≡ state.last_job
+    heard None = refl
+    heard (Some awaited) =
+        elim (is_last reported.kind) as (λ b. (cond b (closes reported.smsc reported.foreign state) state).last_job ≡ state.last_job) [
+          | true ↦ refl
+          | false ↦ refl
+        ]
+last_job-moves (entry.Arrived arrived) state = refl
+last_job-moves (entry.Answered answered) state = refl
+last_job-moves (entry.Called called) state = refl
+last_job-moves (entry.CallDropped dropped) state = refl
