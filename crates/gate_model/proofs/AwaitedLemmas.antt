@@ -1,21 +1,17 @@
 -- The messages of which reports are awaited, as lists under keys.
-use Rattle.std.proofs.Common.{◌≡◌, ◌≢◌, refl, sym, ap, ◌∙◌, subst, ℕ, ◌+◌, ◌-◌, Bool, true, false, cond, List, [], ◌∷◌, ◌++◌, length, Option, Some, None, inl, inr}
+use Rattle.std.proofs.Common.{◌≡◌, ◌≢◌, refl, sym, ap, ◌∙◌, subst, ℕ, ◌+◌, ◌-◌, Bool, true, false, cond, List, [], ◌∷◌, ◌++◌, length, Some, inl, inr}
 use Rattle.std.specs.Prelude.{drop, replicate, IsTrue}
 use Rattle.std.specs.Option.{option_map_or}
 use Rattle.std.proofs.lemmas.Bool.{cases_Bool, and_parts}
 use Rattle.std.proofs.lemmas.List.{append-nil}
 use Rattle.std.proofs.lemmas.Slice.Eq.{bytes_eq-Decides}
 use Rattle.dlr_table.specs.declared.awaited.Awaited.{Awaited}
-use Rattle.dlr_table.specs.Reports.{oldest}
 use Rattle.gate_entries.specs.declared.acked.Acked.{Acked}
-use Rattle.gate_entries.specs.declared.recorded.Recorded.{Recorded}
-use Rattle.gate_entries.specs.declared.recorded.Recorded.TheVariants as entry
-use Rattle.gate_entries.specs.declared.reported.Reported.{Reported}
 use Rattle.sms_record.specs.declared.sms.Sms.{Sms}
 use Rattle.gate_model.specs.declared.arrival.Arrival.{Arrival}
 use Rattle.gate_model.specs.declared.job.Job.{Job}
 use Rattle.gate_model.specs.declared.waiting.Waiting.{Waiting}
-use Rattle.gate_model.specs.Fold.{awaits, calls, closes, counts_entry, hears, is_awaited, is_last, moves, sms_of}
+use Rattle.gate_model.specs.Fold.{awaits, closes, is_awaited, sms_of}
 use Rattle.gate_model.specs.Gate.{is_awaited_in}
 use Rattle.gate_model.specs.State.{State, Lists, is_key, with_list, empty}
 
@@ -76,26 +72,3 @@ pub empty_by : (links : ℕ) (waiting : List (ℕ × Waiting)) (arrivals : List 
     → record (empty links) { waiting = waiting; arrivals = arrivals; jobs = jobs; awaited = lists; awaited_count = count; up = up } ≡ empty links
 empty_by links waiting arrivals jobs lists count up w a j l c u =
     (λ i. record (empty links) { waiting = w i; arrivals = a i; jobs = j i; awaited = λ smsc foreign. l smsc foreign i; awaited_count = c i; up = u i })
-
--- what a URL does and what is counted don't touch each other
-pub counts-calls : (url : Option (List ℕ)) (state : State) → calls url (counts_entry state) ≡ counts_entry (calls url state)
-counts-calls url state = refl
-
--- an entry makes at most one job, so fewer were made than entries counted
-pub last_job-moves : (kept : Recorded) (state : State) → (moves kept state).last_job ≡ state.last_job
-last_job-moves (entry.Accept accept) state = refl
-last_job-moves (entry.Acked acked) state = refl
-last_job-moves (entry.Rejected rejected) state = refl
-last_job-moves (entry.Reported reported) state = heard (oldest (state.awaited reported.smsc reported.foreign))
-  where
-    heard : (found : Option Awaited) → (hears reported found state).last_job ≡ state.last_job
-    heard None = refl
-    heard (Some awaited) =
-        elim (is_last reported.kind) as (λ b. (cond b (closes reported.smsc reported.foreign state) state).last_job ≡ state.last_job) [
-          | true ↦ refl
-          | false ↦ refl
-        ]
-last_job-moves (entry.Arrived arrived) state = refl
-last_job-moves (entry.Answered answered) state = refl
-last_job-moves (entry.Called called) state = refl
-last_job-moves (entry.CallDropped dropped) state = refl

@@ -58,7 +58,7 @@ module _ {T : Type 0} where
 
   -- the values of two lists are numbered on
   numbered_from-append : (first : ℕ) (values others : List T) → numbered_from first (values ++ others) ≡ numbered_from first values ++ numbered_from (first + length values) others
-  numbered_from-append first [] others = ap (λ n. numbered_from n others) (omega arith)
+  numbered_from-append first [] others = let same : first ≡ first + 0 = omega arith in ap (λ n. numbered_from n others) same
   numbered_from-append first (value ∷ values) others =
       let more : first + 1 + length values ≡ first + length (value ∷ values) = omega arith in
       ap (λ ps. (first, value) ∷ ps) (numbered_from-append (first + 1) values others ∙ ap (λ n. numbered_from (first + 1) values ++ numbered_from n others) more)
@@ -86,6 +86,14 @@ accepted_sms number first (part ∷ parts) =
       | true ↦ refl
       | false ↦ accepted_sms number (first + 1) parts
     ]
+
+-- it has a number from the first on
+given_past : (number first : ℕ) (parts : List Sms) → is_some (value_under number (numbered_from first (map unleased parts))) ≡ true → first ≤ number
+given_past number first parts is =
+    ⊎_elim (λ low. absurd (none_there (value_under-below number first (map unleased parts) low))) (λ high. high) (cases_lt number first)
+  where
+    none_there : value_under number (numbered_from first (map unleased parts)) ≡ None → ⊥
+    none_there none = let e : false ≡ true = sym (ap is_some none) ∙ is in cc
 
 -- What is known of the messages of a history in a state: those before it, and behind them those that are still to come, by their numbers.
 record Knows (messages : List (ℕ × Sms)) (state : State) (history : List Recorded) : Type 0 where
@@ -142,12 +150,13 @@ knows_more messages old new parts history waiting last front split below same =
     let first = old.last_message + 1 in
     let own = numbered_from first parts in
     let given = numbered_from first (map unleased parts) in
+    let later : first + length parts ≡ new.last_message + 1 = omega (arith, last) in
     record {
       front = front ++ own;
       split =
           split ∙ ap (λ ps. front ++ ps) (numbered_from-append first parts (flat_map parts_of history))
           ∙ sym (append_assoc front own (numbered_from (first + length parts) (flat_map parts_of history)))
-          ∙ ap (λ n. (front ++ own) ++ numbered_from n (flat_map parts_of history)) (omega (arith, last));
+          ∙ ap (λ n. (front ++ own) ++ numbered_from n (flat_map parts_of history)) later;
       below = λ number high.
           value_under-append number front own ∙ ap (λ o. option_or o (value_under number own)) (below number (omega (arith, last)))
           ∙ value_under-above number first parts (omega (arith, last));
@@ -173,13 +182,10 @@ knows_more messages old new parts history waiting last front split below same =
         let own = value_under number (numbered_from (old.last_message + 1) parts) in
         let given = value_under number (numbered_from (old.last_message + 1) (map unleased parts)) in
         let there : is_some given ≡ true = ap (λ o. is_some (option_or o given)) (sym is) ∙ held in
-        let high = past number there in
-        ap (λ o. option_or o own) (below number high)
+        let high = given_past number (old.last_message + 1) parts there in
+        ap (λ o. option_or o own) (below number (omega (arith, high)))
         ∙ sym (accepted_sms number (old.last_message + 1) parts)
         ∙ sym (ap (λ o. option_map (λ x. x.sms) (option_or o given)) is)
-      where
-        past : (number : ℕ) → is_some (value_under number (numbered_from (old.last_message + 1) (map unleased parts))) ≡ true → old.last_message < number
-        past number is = ⊎_elim (λ low. absurd (let none = value_under-below number (old.last_message + 1) (map unleased parts) low in let e : false ≡ true = sym (ap is_some none) ∙ is in cc)) (λ high. omega (arith, high)) (cases_lt number (old.last_message + 1))
 
 -- ---- one entry
 
@@ -239,8 +245,10 @@ module _ (birth : ℕ) (messages : List (ℕ × Sms)) (state : State) (history :
         | inl is ↦
             let key = key_is reported.smsc reported.foreign smsc foreign is in
             let empty : state.awaited smsc foreign ≡ [] = ap (λ s. state.awaited s foreign) key.0 ∙ ap (state.awaited reported.smsc) key.1 ∙ none_oldest _ (sym none) in
-            rw (empty) (by_both (is_key reported.smsc reported.foreign smsc foreign && is_last reported.kind))
-        | inr differs ↦ rw (differs) refl
+            subst (λ (list : List Awaited). list ≡ cond (is_key reported.smsc reported.foreign smsc foreign && is_last reported.kind) (drop 1 list) list) (sym empty)
+            (by_both (is_key reported.smsc reported.foreign smsc foreign && is_last reported.kind))
+        | inr differs ↦
+            subst (λ b. state.awaited smsc foreign ≡ cond (b && is_last reported.kind) (drop 1 (state.awaited smsc foreign)) (state.awaited smsc foreign)) (sym differs) refl
       ]
     where
       none_oldest : (list : List Awaited) → oldest list ≡ None → list ≡ []
@@ -250,7 +258,6 @@ module _ (birth : ℕ) (messages : List (ℕ × Sms)) (state : State) (history :
       by_both true = refl
       by_both false = refl
   heard smsc foreign reported (Some awaited) some =
-      let key = reported.smsc in
       elim (is_last reported.kind) as (λ b. (cond b (closes reported.smsc reported.foreign state) state).awaited smsc foreign
           ≡ cond (is_key reported.smsc reported.foreign smsc foreign && b) (drop 1 (state.awaited smsc foreign)) (state.awaited smsc foreign)) [
         | true ↦
@@ -259,8 +266,11 @@ module _ (birth : ℕ) (messages : List (ℕ × Sms)) (state : State) (history :
                   let key = key_is reported.smsc reported.foreign smsc foreign is in
                   let same : state.awaited reported.smsc reported.foreign ≡ state.awaited smsc foreign =
                   sym (ap (λ s. state.awaited s foreign) key.0 ∙ ap (state.awaited reported.smsc) key.1) in
-                  rw (is) (ap (drop 1) same)
-              | inr differs ↦ rw (differs) refl
+                  subst (λ b. cond b (drop 1 (state.awaited reported.smsc reported.foreign)) (state.awaited smsc foreign)
+                      ≡ cond (b && true) (drop 1 (state.awaited smsc foreign)) (state.awaited smsc foreign)) (sym is) (ap (drop 1) same)
+              | inr differs ↦
+                  subst (λ b. cond b (drop 1 (state.awaited reported.smsc reported.foreign)) (state.awaited smsc foreign)
+                      ≡ cond (b && true) (drop 1 (state.awaited smsc foreign)) (state.awaited smsc foreign)) (sym differs) refl
             ]
         | false ↦
             elim (is_key reported.smsc reported.foreign smsc foreign) as (λ b. state.awaited smsc foreign ≡ cond (b && false) (drop 1 (state.awaited smsc foreign)) (state.awaited smsc foreign)) [
@@ -280,8 +290,12 @@ module _ (birth : ℕ) (messages : List (ℕ × Sms)) (state : State) (history :
             let key = key_is acked.smsc acked.foreign smsc foreign is in
             let same : state.awaited acked.smsc acked.foreign ≡ state.awaited smsc foreign =
             sym (ap (λ s. state.awaited s foreign) key.0 ∙ ap (state.awaited acked.smsc) key.1) in
-            rw (is) (ap (λ list. list ++ asked_by acked (sms_of acked.message state)) same ∙ ap (λ s. state.awaited smsc foreign ++ asked_by acked s) sms)
-        | inr differs ↦ rw (differs) refl
+            subst (λ b. cond b (state.awaited acked.smsc acked.foreign ++ asked_by acked (sms_of acked.message state)) (state.awaited smsc foreign)
+                ≡ cond b (state.awaited smsc foreign ++ asked_by acked (value_under acked.message messages)) (state.awaited smsc foreign)) (sym is)
+            (ap (λ list. list ++ asked_by acked (sms_of acked.message state)) same ∙ ap (λ s. state.awaited smsc foreign ++ asked_by acked s) sms)
+        | inr differs ↦
+            subst (λ b. cond b (state.awaited acked.smsc acked.foreign ++ asked_by acked (sms_of acked.message state)) (state.awaited smsc foreign)
+                ≡ cond b (state.awaited smsc foreign ++ asked_by acked (value_under acked.message messages)) (state.awaited smsc foreign)) (sym differs) refl
       ]
   open_next smsc foreign (entry.Rejected rejected) suited knows = refl
   open_next smsc foreign (entry.Reported reported) suited knows = heard smsc foreign reported (oldest (state.awaited reported.smsc reported.foreign)) refl
@@ -307,9 +321,6 @@ open_all birth messages state (kept ∷ history) sound knows smsc foreign =
 
 abbrev url_of : ℕ × Job → ℕ × List ℕ
 url_of pair = (pair.0, pair.1.url)
-
-new_url : (url : List ℕ) → (new_job url).url ≡ url
-new_url url = refl
 
 urls_new : (urls : Option (List ℕ)) → map (λ (job : Job). job.url) (map new_job (if_any urls)) ≡ if_any urls
 urls_new None = refl
@@ -352,11 +363,12 @@ calls_urls : (jobs : List (ℕ × Job)) (last : ℕ) (url : Option (List ℕ)) (
     ≡ map url_of jobs ++ numbered_from (last + 1) (if_any url ++ later)
 calls_urls jobs last url later =
     let first = last + 1 in
+    let more : last + length (if_any url) + 1 ≡ first + length (if_any url) = omega arith in
     ap (λ ps. ps ++ numbered_from (last + length (if_any url) + 1) later)
     (map-append url_of jobs (numbered_from first (map new_job (if_any url)))
     ∙ ap (λ ps. map url_of jobs ++ ps) (map-numbered_from (λ (job : Job). job.url) first (map new_job (if_any url)) ∙ ap (numbered_from first) (urls_new url)))
     ∙ append_assoc (map url_of jobs) (numbered_from first (if_any url)) (numbered_from (last + length (if_any url) + 1) later)
-    ∙ ap (λ n. map url_of jobs ++ (numbered_from first (if_any url) ++ numbered_from n later)) (omega arith)
+    ∙ ap (λ n. map url_of jobs ++ (numbered_from first (if_any url) ++ numbered_from n later)) more
     ∙ ap (λ ps. map url_of jobs ++ ps) (sym (numbered_from-append first (if_any url) later))
 
 -- what is left behind an entry that ends a job

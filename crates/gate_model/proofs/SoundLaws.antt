@@ -2,6 +2,7 @@
 use Rattle.std.proofs.Common.{◌≡◌, refl, sym, ap, ◌∙◌, subst, ℕ, ◌==◌, true, false, cond, List, [], ◌∷◌, Option, Some, None}
 use Rattle.std.specs.Prelude.{◌&&◌, option_map, is_some, IsTrue}
 use Rattle.std.specs.List.{list_all}
+use Rattle.std.proofs.lemmas.Bool.{and_parts}
 use Rattle.std.specs.Option.{option_map_or}
 use Rattle.route_rules.specs.declared.rules.Rules.{Rules}
 use Rattle.gate_entries.specs.declared.cause.Cause.{Cause}
@@ -12,7 +13,7 @@ use Rattle.gate_model.specs.declared.waiting.Waiting.{Waiting}
 use Rattle.gate_model.specs.Numbers.{is_held, value_under, with_changes}
 use Rattle.gate_model.specs.State.{State}
 use Rattle.gate_model.specs.Fold.{Entry, recorded, passing, does, counts_entry, sms_of}
-use Rattle.gate_model.specs.Lawful.{IsLawful, IsSound, suits, may_end, has_expired, are_distinct, is_time}
+use Rattle.gate_model.specs.Lawful.{IsLawful, IsSound, IsTimed, suits, may_end, has_expired, are_distinct, is_time}
 use Rattle.gate_model.specs.Fates.{AreSound}
 use Rattle.gate_model.specs.Settling.{settle, free_waiting, free_arrival, free_job, kept}
 use Rattle.gate_model.proofs.SettlingLaws.{settle-keeps, settle-passes, value_under-with_changes}
@@ -69,3 +70,14 @@ are_sound-settle birth state (recorded one ∷ entries) sound = (
 )
 are_sound-settle birth state (passing brief ∷ entries) sound =
     subst (λ s. AreSound birth s (kept entries)) (settle-passes state brief) (are_sound-settle birth (does birth state (passing brief)) entries sound.1)
+
+-- the time of an entry that suits a state is a reading of the clock
+pub timed_where_suits : (state : State) (one : Recorded) → suits state one ≡ true → IsTimed one
+timed_where_suits state (entry.Accept accept) suited = refl
+timed_where_suits state (entry.Acked acked) suited = (and_parts _ _ suited).1
+timed_where_suits state (entry.Rejected rejected) suited = (and_parts _ _ suited).1
+timed_where_suits state (entry.Reported reported) suited = suited
+timed_where_suits state (entry.Arrived arrived) suited = refl
+timed_where_suits state (entry.Answered answered) suited = refl
+timed_where_suits state (entry.Called called) suited = refl
+timed_where_suits state (entry.CallDropped dropped) suited = refl

@@ -12,9 +12,9 @@ const TO_NUMBER_ASKING: &[u8] = b"\x00\x03123\x00\x070123456\x01\xFF\x00\x01\x01
 const TO_TEXT: &[u8] = b"\x00\x03123\x02\x070123456\x01\xFF\x00\x01\x01\x00";
 /// What stands behind them: no header, the body `hello`, no SMSC id, URL, account or service.
 const CONTENTS: &[u8] = b"\x00\x00\x05hello\x00\x00\x00\x00\x00";
-/// What stands behind the times of a record that asks for reports: the same with a URL of 39 octets.
+/// What stands behind the times of a record that asks for reports: the same with a URL of 44 octets.
 const CONTENTS_TO_REPORT: &[u8] =
-    b"\x00\x00\x05hello\x00\x00\x27http://h/?t=%d&f=%F&a=%A&T=%T&P=%P&i=%i\x00\x00";
+    b"\x00\x00\x05hello\x00\x00\x2Chttp://h/?t=%d&f=%F&a=%A&T=%T&P=%P&i=%i&I=%I\x00\x00";
 /// The SMSC id `main` and the foreign id `A1`.
 const KEY: &[u8] = b"\x00\x04main\x00\x02A1";
 /// An empty SMSC id, or foreign id.

@@ -19,7 +19,7 @@ use url_escapes::{Style, expand};
 fn is_asked(kind: Kind, sms: &Sms) -> bool
     ensures { result ≡ (mask_asks_for kind sms.now && is_filled sms.now.url) }
 {
-    asks_for(kind, sms) && !sms.url.is_empty()
+    asks_for(kind, sms) && !sms.url.as_slice().is_empty()
 }
 
 /// The URL of a request, with its escapes filled.

@@ -15,7 +15,7 @@ use sms_record::Sms;
 pub(crate) fn is_awaited(foreign: &Octets, sms: &Sms) -> bool
     ensures { result ≡ is_to_be_awaited foreign.now sms.now }
 {
-    !foreign.is_empty() && asks_centre(sms)
+    !foreign.as_slice().is_empty() && asks_centre(sms)
 }
 
 impl Gate {

@@ -7,3 +7,6 @@ pub returns-then-not-suits-clause-outside : goal.returns-then-not-suits-clause-o
 returns-then-not-suits-clause-outside c =
     let found = c.in_ok-entry.ensures.found in
     λ is. outside c.args.payload.now (loaded c.args.self.now) c.in_ok-entry.entry found.0 found.1 (sym c.if-not-suits.ensures)
+
+pub prepare-requires : goal.prepare-requires
+prepare-requires c = record { timed = timed_where_suits (loaded c.args.self.now) c.in_ok-entry.entry (search (rules, tests)) }
