@@ -41,5 +41,5 @@ pub use exact_octets::RecordFault;
 pub use passing::Passing;
 pub use recorded::Recorded;
 pub use rejected::Rejected;
-pub use reported::{Reported, value_of_kind};
+pub use reported::Reported;
 pub use size::entry_size;

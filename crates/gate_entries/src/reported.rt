@@ -27,8 +27,8 @@ pub struct Reported {
     pub time: u64,
 }
 
-/// The value of a kind of reports: its bit in a mask, and its octet in an entry.
-pub fn value_of_kind(kind: Kind) -> u8
+/// The octet of a kind of reports: its bit in a mask.
+fn value_of_kind(kind: Kind) -> u8
     ensures { result ≡ kind_value kind }
 {
     match kind {

@@ -1,10 +1,10 @@
 -- The law of reports: what is awaited is what is open by the entries alone, and the jobs that are held are those that are due and left.
-use Rattle.std.proofs.Common.{◌≡◌, ◌≢◌, refl, sym, ap, ◌∙◌, subst, ℕ, ◌+◌, ◌≤◌, ◌<◌, ◌==◌, Bool, true, false, not, cond, List, [], ◌∷◌, ◌++◌, length, map, filter, Option, Some, None, arith, append_assoc, ne_eqb, inl, inr, ⊎_elim}
+use Rattle.std.proofs.Common.{◌≡◌, refl, sym, ap, ◌∙◌, subst, ℕ, ◌+◌, ◌≤◌, ◌<◌, ◌==◌, Bool, true, false, not, cond, List, [], ◌∷◌, ◌++◌, length, map, filter, Option, Some, None, arith, append_assoc, ne_eqb, inl, inr, ⊎_elim}
 use Rattle.std.specs.Prelude.{drop, fold, is_some, option_map, ◌&&◌, ◌||◌}
 use Rattle.std.specs.List.{flat_map, list_any}
 use Rattle.std.specs.Option.{option_or, option_and_then}
 use Rattle.std.proofs.lemmas.Bool.{and_parts, cases_Bool, cases_lt}
-use Rattle.std.proofs.lemmas.List.{append-nil, map-append, length-map}
+use Rattle.std.proofs.lemmas.List.{append-nil, map-append}
 use Rattle.std.proofs.lemmas.List.Elements.{filter-append}
 use Rattle.sms_record.specs.declared.sms.Sms.{Sms}
 use Rattle.dlr_table.specs.Reports.{oldest}
@@ -19,14 +19,14 @@ use Rattle.report_urls.specs.Report.{acked_report, rejected_report}
 use Rattle.report_urls.specs.ReportUrl.{report_url}
 use Rattle.gate_model.specs.declared.job.Job.{Job}
 use Rattle.gate_model.specs.declared.waiting.Waiting.{Waiting}
-use Rattle.gate_model.specs.Due.{messages_of, open_behind, open_after, open_reports, due_from, due, is_end_of_job, urls_of, jobs_of, jobs_left, HaveReports}
+use Rattle.gate_model.specs.Due.{messages_of, open_behind, open_after, due_from, is_end_of_job, urls_of, HaveReports}
 use Rattle.gate_model.specs.Fates.{AreSound}
-use Rattle.gate_model.specs.Fold.{recorded, does, after, moves, hears, closes, accepts, unleased, new_job, if_any, is_last, asked_by, called_url, url_in, sms_of}
+use Rattle.gate_model.specs.Fold.{recorded, does, after, moves, hears, closes, unleased, new_job, if_any, is_last, asked_by, called_url, url_in, sms_of}
 use Rattle.gate_model.specs.Lawful.{suits}
 use Rattle.gate_model.specs.Numbers.{Rise, is_held, value_under, without, numbered_from}
-use Rattle.gate_model.specs.State.{State, Lists, IsInOrder, is_key}
+use Rattle.gate_model.specs.State.{State, IsInOrder, is_key}
 use Rattle.gate_model.proofs.AwaitedLemmas.{same_lists, key_is}
-use Rattle.gate_model.proofs.FatesLaws.{value_under-without_other, value_under-without, below-numbered_from, held-may_end, held_below}
+use Rattle.gate_model.proofs.FatesLaws.{value_under-without_other, value_under-without, held-may_end, held_below}
 use Rattle.gate_model.proofs.NumberLemmas.{by_number}
 use Rattle.gate_model.proofs.OrderLemmas.{IsInOrder-does}
 use Rattle.gate_model.proofs.WholeLemmas.{some_value}

@@ -17,7 +17,7 @@ use Rattle.gate_model.specs.Numbers.{Rise, is_held, value_under, without, with_c
 use Rattle.dlr_table.specs.declared.awaited.Awaited.{Awaited}
 use Rattle.gate_entries.specs.declared.reported.Reported.{Reported}
 use Rattle.gate_model.specs.State.{State, IsInOrder, empty}
-use Rattle.gate_model.specs.Fold.{Entry, recorded, passing, keeps, passes, does, after, accepts, answers, moves, hears, closes, unleased, is_last}
+use Rattle.gate_model.specs.Fold.{Entry, recorded, passing, passes, does, after, accepts, answers, moves, hears, closes, unleased, is_last}
 use Rattle.gate_model.specs.Lawful.{suits, may_end, has_expired}
 use Rattle.gate_model.specs.Fates.{AreLawful, IsSoundIn, AreSound, Fate, taken, given_up, stored, fate, ended_by, is_end_of, IsCounted, HaveFates}
 use Rattle.gate_model.proofs.NumberLemmas.{by_number, length-without, length-numbered_from}

@@ -1,5 +1,5 @@
 -- What is sound is sound whoever has taken what, and whichever links are up.
-use Rattle.std.proofs.Common.{◌≡◌, refl, sym, ap, ◌∙◌, subst, ℕ, ◌==◌, true, false, cond, List, [], ◌∷◌, Option, Some, None}
+use Rattle.std.proofs.Common.{◌≡◌, refl, sym, ap, ◌∙◌, subst, ℕ, true, false, List, [], ◌∷◌, Option, Some, None}
 use Rattle.std.specs.Prelude.{◌&&◌, option_map, is_some, IsTrue}
 use Rattle.std.specs.List.{list_all}
 use Rattle.std.proofs.lemmas.Bool.{and_parts}
@@ -12,7 +12,7 @@ use Rattle.gate_entries.specs.declared.recorded.Recorded.TheVariants as entry
 use Rattle.gate_model.specs.declared.waiting.Waiting.{Waiting}
 use Rattle.gate_model.specs.Numbers.{is_held, value_under, with_changes}
 use Rattle.gate_model.specs.State.{State}
-use Rattle.gate_model.specs.Fold.{Entry, recorded, passing, does, counts_entry, sms_of}
+use Rattle.gate_model.specs.Fold.{Entry, recorded, passing, does, counts_entry}
 use Rattle.gate_model.specs.Lawful.{IsLawful, IsSound, IsTimed, suits, may_end, has_expired, are_distinct, is_time}
 use Rattle.gate_model.specs.Fates.{AreSound}
 use Rattle.gate_model.specs.Settling.{settle, free_waiting, free_arrival, free_job, kept}

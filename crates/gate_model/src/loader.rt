@@ -2,7 +2,7 @@
 
 ghost use Rattle.std.specs.Prelude.{◌≡◌, ◌<◌, ◌^◌, length, IfOk, IfErr, OnOk, Some, Err};
 ghost use Rattle.gate_entries.specs.Entry.{IsEntry, entry_octets};
-ghost use Rattle.gate_model.specs.Gate.{model_of, rules_of, IsGate};
+ghost use Rattle.gate_model.specs.Gate.{rules_of, IsGate};
 ghost use Rattle.gate_model.specs.Loading.{gate_in, birth_in, loaded, IsTaken, IsOutside, IsNoEntry};
 ghost use Rattle.gate_model.specs.State.{empty};
 

@@ -8,8 +8,8 @@ ghost use Rattle.url_escapes.specs.Value.{first_word as first_of};
 ghost use Rattle.url_escapes.specs.Words.{words as words_in};
 ghost use Rattle.report_urls.specs.ReportUrl as spec;
 
+use crate::mask::value_of_kind;
 use crate::report::{Report, copy_two};
-use gate_entries::value_of_kind;
 use kn_base::{Charset, Items, Memory, Octets};
 use sms_record::{Address, Coding, Sms};
 use std::alloc::Global;
