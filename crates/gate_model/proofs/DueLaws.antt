@@ -202,9 +202,9 @@ hears-same : (reported : Reported) (found : Option Awaited) (state : State)
 hears-same reported None state = (refl, refl, refl, refl)
 hears-same reported (Some awaited) state =
     elim (is_last reported.kind) as (λ b. ((cond b (closes reported.smsc reported.foreign state) state).waiting ≡ state.waiting)
-        × ((cond b (closes reported.smsc reported.foreign state) state).last_message ≡ state.last_message)
-        × ((cond b (closes reported.smsc reported.foreign state) state).jobs ≡ state.jobs)
-        × ((cond b (closes reported.smsc reported.foreign state) state).last_job ≡ state.last_job)) [
+    × ((cond b (closes reported.smsc reported.foreign state) state).last_message ≡ state.last_message)
+    × ((cond b (closes reported.smsc reported.foreign state) state).jobs ≡ state.jobs)
+    × ((cond b (closes reported.smsc reported.foreign state) state).last_job ≡ state.last_job)) [
       | true ↦ (refl, refl, refl, refl)
       | false ↦ (refl, refl, refl, refl)
     ]
@@ -254,12 +254,13 @@ module _ (birth : ℕ) (messages : List (ℕ × Sms)) (state : State) (history :
       none_oldest : (list : List Awaited) → oldest list ≡ None → list ≡ []
       none_oldest [] e = refl
       none_oldest (x ∷ xs) e = absurd cc
+
       by_both : (b : Bool) → ◌≡◌ {A = List Awaited} [] (cond b [] [])
       by_both true = refl
       by_both false = refl
   heard smsc foreign reported (Some awaited) some =
       elim (is_last reported.kind) as (λ b. (cond b (closes reported.smsc reported.foreign state) state).awaited smsc foreign
-          ≡ cond (is_key reported.smsc reported.foreign smsc foreign && b) (drop 1 (state.awaited smsc foreign)) (state.awaited smsc foreign)) [
+      ≡ cond (is_key reported.smsc reported.foreign smsc foreign && b) (drop 1 (state.awaited smsc foreign)) (state.awaited smsc foreign)) [
         | true ↦
             elim (cases_Bool (is_key reported.smsc reported.foreign smsc foreign)) [
               | inl is ↦
@@ -267,10 +268,10 @@ module _ (birth : ℕ) (messages : List (ℕ × Sms)) (state : State) (history :
                   let same : state.awaited reported.smsc reported.foreign ≡ state.awaited smsc foreign =
                   sym (ap (λ s. state.awaited s foreign) key.0 ∙ ap (state.awaited reported.smsc) key.1) in
                   subst (λ b. cond b (drop 1 (state.awaited reported.smsc reported.foreign)) (state.awaited smsc foreign)
-                      ≡ cond (b && true) (drop 1 (state.awaited smsc foreign)) (state.awaited smsc foreign)) (sym is) (ap (drop 1) same)
+                  ≡ cond (b && true) (drop 1 (state.awaited smsc foreign)) (state.awaited smsc foreign)) (sym is) (ap (drop 1) same)
               | inr differs ↦
                   subst (λ b. cond b (drop 1 (state.awaited reported.smsc reported.foreign)) (state.awaited smsc foreign)
-                      ≡ cond (b && true) (drop 1 (state.awaited smsc foreign)) (state.awaited smsc foreign)) (sym differs) refl
+                  ≡ cond (b && true) (drop 1 (state.awaited smsc foreign)) (state.awaited smsc foreign)) (sym differs) refl
             ]
         | false ↦
             elim (is_key reported.smsc reported.foreign smsc foreign) as (λ b. state.awaited smsc foreign ≡ cond (b && false) (drop 1 (state.awaited smsc foreign)) (state.awaited smsc foreign)) [
@@ -291,11 +292,11 @@ module _ (birth : ℕ) (messages : List (ℕ × Sms)) (state : State) (history :
             let same : state.awaited acked.smsc acked.foreign ≡ state.awaited smsc foreign =
             sym (ap (λ s. state.awaited s foreign) key.0 ∙ ap (state.awaited acked.smsc) key.1) in
             subst (λ b. cond b (state.awaited acked.smsc acked.foreign ++ asked_by acked (sms_of acked.message state)) (state.awaited smsc foreign)
-                ≡ cond b (state.awaited smsc foreign ++ asked_by acked (value_under acked.message messages)) (state.awaited smsc foreign)) (sym is)
+            ≡ cond b (state.awaited smsc foreign ++ asked_by acked (value_under acked.message messages)) (state.awaited smsc foreign)) (sym is)
             (ap (λ list. list ++ asked_by acked (sms_of acked.message state)) same ∙ ap (λ s. state.awaited smsc foreign ++ asked_by acked s) sms)
         | inr differs ↦
             subst (λ b. cond b (state.awaited acked.smsc acked.foreign ++ asked_by acked (sms_of acked.message state)) (state.awaited smsc foreign)
-                ≡ cond b (state.awaited smsc foreign ++ asked_by acked (value_under acked.message messages)) (state.awaited smsc foreign)) (sym differs) refl
+            ≡ cond b (state.awaited smsc foreign ++ asked_by acked (value_under acked.message messages)) (state.awaited smsc foreign)) (sym differs) refl
       ]
   open_next smsc foreign (entry.Rejected rejected) suited knows = refl
   open_next smsc foreign (entry.Reported reported) suited knows = heard smsc foreign reported (oldest (state.awaited reported.smsc reported.foreign)) refl
@@ -333,7 +334,7 @@ module _ (number : ℕ) (gone : ℕ → Bool) where
   left_without (pair ∷ jobs) =
       let rest = left_without jobs in
       elim (pair.0 == number) as (λ b. filter (λ job. not (gone job.0)) (map url_of (cond (not b) (pair ∷ without number jobs) (without number jobs)))
-          ≡ cond (not (b || gone pair.0)) (url_of pair ∷ filter (λ job. not (job.0 == number || gone job.0)) (map url_of jobs)) (filter (λ job. not (job.0 == number || gone job.0)) (map url_of jobs))) [
+      ≡ cond (not (b || gone pair.0)) (url_of pair ∷ filter (λ job. not (job.0 == number || gone job.0)) (map url_of jobs)) (filter (λ job. not (job.0 == number || gone job.0)) (map url_of jobs))) [
         | true ↦ rest
         | false ↦ ap (λ ps. cond (not (gone pair.0)) (url_of pair ∷ ps) ps) rest
       ]
@@ -395,7 +396,7 @@ module _ (birth : ℕ) (state : State) (history : List Recorded) (later : List (
       let url = url_in birth state (entry.Reported reported) in
       let same = hears-same reported (oldest (state.awaited reported.smsc reported.foreign)) state in
       ap (λ jobs. left_of history (map url_of (jobs ++ numbered_from ((moves (entry.Reported reported) state).last_job + 1) (map new_job (if_any url)))
-          ++ numbered_from ((moves (entry.Reported reported) state).last_job + length (if_any url) + 1) later)) same.2
+      ++ numbered_from ((moves (entry.Reported reported) state).last_job + length (if_any url) + 1) later)) same.2
       ∙ ap (λ last. left_of history (map url_of (state.jobs ++ numbered_from (last + 1) (map new_job (if_any url))) ++ numbered_from (last + length (if_any url) + 1) later)) same.3
       ∙ ap (left_of history) (calls_urls state.jobs state.last_job url later)
   jobs_next (entry.Arrived arrived) order suited = ap (left_of history) (calls_urls state.jobs state.last_job None later)

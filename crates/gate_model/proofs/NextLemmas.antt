@@ -105,12 +105,13 @@ least_bound n (pair ∷ pairs) best all is = by_rest (least pairs) refl is
   where
     here : n ≤ pair.1.returns
     here = All-head (λ p. n ≤ p.1.returns) pair pairs all
+
     by_rest : (rest : Option (ℕ × ℕ)) → least pairs ≡ rest → Some (either (counted pair) rest) ≡ Some best → n ≤ best.1
     by_rest None none one = let same : counted pair ≡ best = cc in subst (λ b. n ≤ b.1) same here
     by_rest (Some later) some one =
         let there = least_bound n pairs later (All-tail (λ p. n ≤ p.1.returns) pair pairs all) some in
         let same : cond (nat_le pair.1.returns later.1) (counted pair) later ≡ best = cc in
-        subst (λ b. n ≤ b.1) same (elim (nat_le pair.1.returns later.1) as (λ b. n ≤ (cond b (counted pair) later).1) [ | true ↦ here | false ↦ there ])
+        subst (λ b. n ≤ b.1) same (elim (nat_le pair.1.returns later.1) as (λ b. n ≤ (cond b (counted pair) later).1) [ true ↦ here | false ↦ there ])
 
 -- each was given back as often as that one at least
 least_is_least : (pairs : List (ℕ × Job)) (best : ℕ × ℕ) → least pairs ≡ Some best → AllReturned best.1 pairs
@@ -137,6 +138,7 @@ least_is_least (pair ∷ pairs) best is = by_rest (least pairs) refl is
               let low = leb-false pair.1.returns later.1 gt in
               subst (λ b. AllReturned b.1 (pair ∷ pairs)) second (All-cons (λ p. later.1 ≤ p.1.returns) pair pairs (omega (arith, low)) rest)
         ]
+
     none_left : (others : List (ℕ × Job)) → least others ≡ None → AllReturned pair.1.returns others
     none_left [] none = All-nil (λ p. pair.1.returns ≤ p.1.returns)
     none_left (other ∷ others) none = absurd cc
@@ -150,6 +152,7 @@ module _ (passes : ℕ → Bool) where
     where
       found_if : (b : Bool) → passes pair.1.returns ≡ b → option_map (λ p. p.0) (find (λ p. passes p.1.returns) (pair ∷ pairs)) ≡ option_map (λ p. p.0) (cond b (Some pair) (find (λ p. passes p.1.returns) pairs))
       found_if b is = ap (λ x. option_map (λ p. p.0) (cond x (Some pair) (find (λ p. passes p.1.returns) pairs))) is
+
       by_rest : (rest : Option (ℕ × ℕ)) → least pairs ≡ rest
           → option_map (λ p. p.0) (find (λ p. passes p.1.returns) (pair ∷ pairs)) ≡ option_map (λ best. best.0) (least (pair ∷ pairs))
       by_rest None none =
@@ -173,6 +176,7 @@ module _ (passes : ℕ → Bool) where
                 ∙ first_least pairs tails (λ best there. let same : later ≡ best = some_same later best (sym some ∙ there) in subst (λ b. passes b.1 ≡ true) same (good later is))
                 ∙ ap (option_map (λ best. best.0)) some ∙ sym (ap (option_map (λ best. best.0)) is)
           ]
+
       some_same : (a b : ℕ × ℕ) → Some a ≡ Some b → a ≡ b
       some_same a b e = cc
 

@@ -164,7 +164,7 @@ free_job_found : (state : State) (job : ℕ) → IsInOrder state → next_job st
 free_job_found state job order is =
     let end = state.last_job + 1 in
     let found = first_found (λ (j : Job). list_all (λ other. nat_le j.returns other.1.returns) (free_jobs state)) 1 end job (free_jobs state)
-        (Rise-filter (λ (pair : ℕ × Job). not pair.1.leased) 1 end state.jobs order.jobs) is in
+    (Rise-filter (λ (pair : ℕ × Job). not pair.1.leased) 1 end state.jobs order.jobs) is in
     let under = under-filter (λ (pair : ℕ × Job). not pair.1.leased) 1 end job found.value state.jobs order.jobs found.there in
     record { value = found.value; there = under.0; free = under.1 }
 

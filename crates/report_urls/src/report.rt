@@ -37,7 +37,11 @@ fn cause_text(alloc: Global, cause: Cause) -> Result<Octets, Memory>
 }
 
 /// Copies of two texts.
-pub(crate) fn copy_two(alloc: Global, first: &Octets, second: &Octets) -> Result<(Octets, Octets), Memory>
+pub(crate) fn copy_two(
+    alloc: Global,
+    first: &Octets,
+    second: &Octets,
+) -> Result<(Octets, Octets), Memory>
     ensures { IfOk result (λ copies. (copies.0 ≡ first.now) × (copies.1 ≡ second.now)) }
 {
     let first = Octets::from_slice(alloc, first.as_slice())?;

@@ -28,7 +28,6 @@ pub fn split_words(alloc: Global, text: &[u8]) -> Result<Items<Octets>, Memory>
     Ok(found)
 }
 
-
 /// The words behind the first.
 pub(crate) fn behind_first(words: &[Octets]) -> &[Octets]
     ensures { result.now ≡ drop 1 words.now }
