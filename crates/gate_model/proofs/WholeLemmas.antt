@@ -1,8 +1,8 @@
 -- What keeps a state whole is kept by each thing that a gate does.
-use Rattle.std.proofs.Common.{◌≡◌, refl, sym, ap, ◌∙◌, subst, ℕ, ◌+◌, ◌*◌, ◌≤◌, ◌<◌, ◌^◌, zero, suc, Bool, List, [], ◌∷◌, length, map, Option, Some, None, arith, length-set}
+use Rattle.std.proofs.Common.{◌≡◌, refl, sym, ap, ◌∙◌, subst, ℕ, ◌+◌, ◌*◌, ◌≤◌, ◌<◌, ◌^◌, zero, suc, Bool, List, [], ◌∷◌, length, map, Option, Some, None, arith, length-set, add-zero}
 use Rattle.std.specs.Prelude.{slice_set, slice_index, IsSome, IsSomeAnd, replicate, false}
 use Rattle.std.specs.List.{range_with_len}
-use Rattle.std.proofs.lemmas.List.{length-replicate}
+use Rattle.std.proofs.lemmas.List.{append-nil, length-replicate}
 use Rattle.sms_record.specs.declared.sms.Sms.{Sms}
 use Rattle.route_rules.specs.declared.rules.Rules.{Rules}
 use Rattle.gate_entries.specs.declared.limits.TheConstants.{MOST_MESSAGES}
@@ -30,6 +30,20 @@ becomes old new flight state rules flights places holds whole = record {
   holds = holds;
   places = places;
 }
+
+-- and it is a gate, whatever places it has
+pub whole_by : (old new : Gate) (flight : List ℕ) (state : State) → rules_of new ≡ rules_of old → new.flight.items ≡ flight → model_of new ≡ state
+    → IsWhole (rules_of old) flight state → IsWhole new.rules new.flight.items (model_of new)
+whole_by old new flight state rules flights holds whole =
+    subst (λ r. IsWhole r new.flight.items (model_of new)) (sym rules)
+    (subst (λ f. IsWhole (rules_of old) f (model_of new)) (sym flights) (subst (λ s. IsWhole (rules_of old) flight s) (sym holds) whole))
+
+-- where no URL is called nothing changes
+pub calls_none : (state : State) → state ≡ calls None state
+calls_none state =
+    let jobs = sym (append-nil state.jobs) in
+    let last = sym (add-zero state.last_job) in
+    (λ i. record state { jobs = jobs i; last_job = last i })
 
 -- the value under a number, where there is one
 pub some_value : {T : Type 0} (o : Option T) → IsSome o → (value : T) × (o ≡ Some value)

@@ -128,6 +128,10 @@ closes smsc foreign state = record state {
 abbrev pub misses : State → State
 misses state = record state { unmatched = state.unmatched + 1 }
 
+-- the oldest message under the key of a report
+abbrev pub first_under : Reported → State → Option Awaited
+first_under reported state = oldest (state.awaited reported.smsc reported.foreign)
+
 -- a report came for the oldest message under its key, where there is one
 abbrev pub hears : Reported → Option Awaited → State → State
 hears reported None state = misses state
@@ -167,7 +171,7 @@ abbrev pub moves : Recorded → State → State
 moves (entry.Accept accept) state = accepts accept.parts state
 moves (entry.Acked acked) state = acknowledges acked state
 moves (entry.Rejected rejected) state = rejects rejected.message state
-moves (entry.Reported reported) state = hears reported (oldest (state.awaited reported.smsc reported.foreign)) state
+moves (entry.Reported reported) state = hears reported (first_under reported state) state
 moves (entry.Arrived arrived) state = arrives arrived.sms state
 moves (entry.Answered answered) state = accepts answered.parts (answers answered.arrivals state)
 moves (entry.Called called) state = record (ends_job called.job state) { called = state.called + 1 }

@@ -110,7 +110,7 @@ birth_of ready = ready.birth
 
 -- An entry that was prepared may be done: the gate has the memory that it needs, and with it stands the URL that it calls in the gate's state.
 pub record HasRoom (gate : Gate) (ready : Ready) : Type 0 where
-  pub entry : HasRoomFor gate (entry_of ready)
+  pub memory : HasRoomFor gate (entry_of ready)
   pub url : ready.url ≡ url_in (birth_of ready) (model_of gate) (entry_of ready)
   pub job : IfSome ready.url (λ url. 1 ≤ gate.jobs.room)
 

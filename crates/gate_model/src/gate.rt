@@ -54,17 +54,23 @@ impl Gate {
         ensures err { IfErr result (λ back. back.0 ≡ rules) }
     {
         match links_down(alloc, rules.links.len()) {
-            Ok((up, flight)) => Ok(Gate {
-                alloc,
-                rules,
-                up,
-                flight,
-                waiting: Table::new(alloc),
-                arrivals: Table::new(alloc),
-                jobs: Table::new(alloc),
-                reports: Reports::new(alloc),
-                counts: Counts::NONE,
-            }),
+            Ok((up, flight)) => {
+                let waiting = Table::new(alloc);
+                let arrivals = Table::new(alloc);
+                let jobs = Table::new(alloc);
+                let reports = Reports::new(alloc);
+                Ok(Gate {
+                    alloc,
+                    rules,
+                    up,
+                    flight,
+                    waiting,
+                    arrivals,
+                    jobs,
+                    reports,
+                    counts: Counts::NONE,
+                })
+            }
             Err(Memory) => Err((rules, Memory)),
         }
     }

@@ -2,7 +2,7 @@
 
 ghost use Rattle.std.specs.Prelude.{◌≡◌, ℕ, ◌+◌, ◌<◌, ◌≤◌, true, false, min, IfSome};
 ghost use Rattle.gate_model.specs.Fold.{calls, counts_entry, ends_job, takes_job, returns_job, most_returns};
-ghost use Rattle.gate_model.specs.Gate.{model_of, IsGate, Becomes};
+ghost use Rattle.gate_model.specs.Gate.{model_of, rules_of, IsGate, Becomes};
 ghost use Rattle.gate_model.specs.Lawful.{most_entries};
 ghost use Rattle.gate_model.specs.Numbers.{Rise, with_change};
 
@@ -40,7 +40,9 @@ impl Gate {
         requires whole { IsGate self.old }
         requires room { IfSome url (λ _. 1 ≤ self.old.jobs.room) }
         requires counted { (model_of self.old).last_job < (model_of self.old).entries }
-        ensures { Becomes self.old self.new (calls url (model_of self.old)) }
+        ensures whole { IsGate self.new }
+        ensures rules { rules_of self.new ≡ rules_of self.old }
+        ensures state { model_of self.new ≡ calls url (model_of self.old) }
     {
         if let Some(url) = url {
             let number = self.counts.last_job + 1;

@@ -1,9 +1,9 @@
 //! What centres say of messages.
 
-ghost use Rattle.std.specs.Prelude.{◌≡◌, ◌<◌, true, [], is_some, IsTrue, IsSome, Some};
-ghost use Rattle.dlr_table.specs.Reports.{oldest, spare};
+ghost use Rattle.std.specs.Prelude.{◌≡◌, ◌<◌, ◌+◌, true, [], is_some, IsTrue, IsSome, Some};
+ghost use Rattle.dlr_table.specs.Reports.{spare};
 ghost use Rattle.gate_entries.specs.declared.recorded.Recorded.TheVariants as entry;
-ghost use Rattle.gate_model.specs.Fold.{counts_entry, acknowledges, rejects, hears, closes, awaits, asked_by, is_awaited as is_to_be_awaited, is_last as is_last_kind};
+ghost use Rattle.gate_model.specs.Fold.{counts_entry, acknowledges, ends, sms_of, rejects, hears, misses, first_under, closes, awaits, asked_by, is_awaited as is_to_be_awaited, is_last as is_last_kind};
 ghost use Rattle.gate_model.specs.Gate.{model_of, IsGate, Becomes, HasRoomFor};
 ghost use Rattle.gate_model.specs.Lawful.{most_entries};
 ghost use Rattle.gate_model.specs.Numbers.{Has};
@@ -46,13 +46,26 @@ impl Gate {
         ensures state { Becomes self.old self.new (counts_entry (acknowledges acked.now (model_of self.old))) }
         ensures reply { result ≡ Reply.Noted true }
     {
-        let sms = self.end_message(acked.message);
-        self.counts.acked += 1;
-        self.counts.entries += 1;
+        let sms = self.take_out(acked.message);
         if let Some(sms) = sms {
             self.await_report(acked, sms);
         }
         MATCHED
+    }
+
+    /// A message that a centre took no longer waits, and is counted. It is handed out.
+    fn take_out(&mut self, message: u64) -> Option<Sms>
+        requires whole { IsGate self.old }
+        requires few { (model_of self.old).entries < most_entries }
+        requires held { Has self.old.waiting.pairs message }
+        ensures state { Becomes self.old self.new (counts_entry (record (ends message (model_of self.old)) { acked = (model_of self.old).acked + 1 })) }
+        ensures sms { result ≡ sms_of message (model_of self.old) }
+        ensures reports { self.new.reports ≡ self.old.reports }
+    {
+        let sms = self.end_message(message);
+        self.counts.acked += 1;
+        self.counts.entries += 1;
+        sms
     }
 
     /// A message that its centre took is awaited, where it is to be.
@@ -62,13 +75,13 @@ impl Gate {
         ensures { Becomes self.old self.new (awaits acked.now.smsc acked.now.foreign (asked_by acked.now (Some sms)) (model_of self.old)) }
     {
         if is_awaited(&acked.foreign, &sms) {
-            let awaited = Awaited {
-                message: acked.message,
-                sms: without_body(self.alloc, sms),
-            };
+            let smsc = acked.smsc.as_slice();
+            let foreign = acked.foreign.as_slice();
+            let message = acked.message;
+            let kept = without_body(self.alloc, sms);
             let _ = self
                 .reports
-                .add(acked.smsc.as_slice(), acked.foreign.as_slice(), awaited);
+                .add(smsc, foreign, Awaited { message, sms: kept });
         }
     }
 
@@ -90,30 +103,67 @@ impl Gate {
     pub(crate) fn hear_report(&mut self, reported: &Reported) -> Reply
         requires whole { IsGate self.old }
         requires few { (model_of self.old).entries < most_entries }
-        ensures state { Becomes self.old self.new (counts_entry (hears reported.now (oldest ((model_of self.old).awaited reported.now.smsc reported.now.foreign)) (model_of self.old))) }
-        ensures reply { result ≡ Reply.Noted (is_some (oldest ((model_of self.old).awaited reported.now.smsc reported.now.foreign))) }
+        ensures state { Becomes self.old self.new (counts_entry (hears reported.now (first_under reported.now (model_of self.old)) (model_of self.old))) }
+        ensures reply { result ≡ Reply.Noted (is_some (first_under reported.now (model_of self.old))) }
     {
-        let matched = self
-            .reports
-            .find(reported.smsc.as_slice(), reported.foreign.as_slice())
-            .is_some();
-        if !matched {
-            self.counts.unmatched += 1;
-        } else if is_last(reported.kind) {
-            self.close_report(reported);
+        if self.is_matched(reported) {
+            self.hear_matched(reported);
+            MATCHED
+        } else {
+            self.miss();
+            Reply::Noted { matched: false }
         }
-        self.counts.entries += 1;
-        Reply::Noted { matched }
     }
 
-    /// The oldest message under a key is no longer awaited.
+    /// Whether a message is awaited under the key of a report.
+    fn is_matched(&self, reported: &Reported) -> bool
+        ensures { result ≡ is_some (first_under reported.now (model_of self.now)) }
+    {
+        let smsc = reported.smsc.as_slice();
+        let foreign = reported.foreign.as_slice();
+        self.reports.find(smsc, foreign).is_some()
+    }
+
+    /// A report belonged to no message.
+    fn miss(&mut self)
+        requires whole { IsGate self.old }
+        requires few { (model_of self.old).entries < most_entries }
+        ensures { Becomes self.old self.new (counts_entry (misses (model_of self.old))) }
+    {
+        self.counts.unmatched += 1;
+        self.counts.entries += 1;
+    }
+
+    /// A report belonged to a message.
+    fn hear_matched(&mut self, reported: &Reported)
+        requires whole { IsGate self.old }
+        requires few { (model_of self.old).entries < most_entries }
+        requires some { IsSome (first_under reported.now (model_of self.old)) }
+        ensures { Becomes self.old self.new (counts_entry (hears reported.now (first_under reported.now (model_of self.old)) (model_of self.old))) }
+    {
+        if is_last(reported.kind) {
+            self.close_report(reported);
+        }
+        self.count_entry();
+    }
+
+    /// The oldest message under the key of a report is no longer awaited.
     fn close_report(&mut self, reported: &Reported)
         requires whole { IsGate self.old }
-        requires some { IsSome (oldest ((model_of self.old).awaited reported.now.smsc reported.now.foreign)) }
+        requires some { IsSome (first_under reported.now (model_of self.old)) }
         ensures { Becomes self.old self.new (closes reported.now.smsc reported.now.foreign (model_of self.old)) }
     {
-        let _ = self
-            .reports
-            .close(reported.smsc.as_slice(), reported.foreign.as_slice());
+        let smsc = reported.smsc.as_slice();
+        let foreign = reported.foreign.as_slice();
+        let _ = self.reports.close(smsc, foreign);
+    }
+
+    /// One more entry was recorded.
+    fn count_entry(&mut self)
+        requires whole { IsGate self.old }
+        requires few { (model_of self.old).entries < most_entries }
+        ensures { Becomes self.old self.new (counts_entry (model_of self.old)) }
+    {
+        self.counts.entries += 1;
     }
 }

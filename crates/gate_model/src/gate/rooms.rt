@@ -137,8 +137,9 @@ impl Gate {
         ensures jobs { self.new.jobs.room ≡ self.old.jobs.room }
     {
         if self.is_report_awaited(acked) {
-            self.reports
-                .reserve(acked.smsc.as_slice(), acked.foreign.as_slice())
+            let smsc = acked.smsc.as_slice();
+            let foreign = acked.foreign.as_slice();
+            self.reports.reserve(smsc, foreign)
         } else {
             Ok(())
         }
