@@ -142,8 +142,20 @@ impl Gate {
         ensures { Becomes self.old self.new (counts_entry (hears reported.now (first_under reported.now (model_of self.old)) (model_of self.old))) }
     {
         if is_last(reported.kind) {
-            self.close_report(reported);
+            self.hear_last(reported);
+        } else {
+            self.count_entry();
         }
+    }
+
+    /// A report belonged to a message, and no other follows.
+    fn hear_last(&mut self, reported: &Reported)
+        requires whole { IsGate self.old }
+        requires few { (model_of self.old).entries < most_entries }
+        requires some { IsSome (first_under reported.now (model_of self.old)) }
+        ensures { Becomes self.old self.new (counts_entry (closes reported.now.smsc reported.now.foreign (model_of self.old))) }
+    {
+        self.close_report(reported);
         self.count_entry();
     }
 

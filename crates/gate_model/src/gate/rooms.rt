@@ -90,10 +90,9 @@ impl Gate {
         requires { IsTimed (Recorded.Reported reported.now) }
         ensures { IfOk result (λ url. url ≡ url_in birth (model_of self.now) (Recorded.Reported reported.now)) }
     {
-        match self
-            .reports
-            .find(reported.smsc.as_slice(), reported.foreign.as_slice())
-        {
+        let smsc = reported.smsc.as_slice();
+        let foreign = reported.foreign.as_slice();
+        match self.reports.find(smsc, foreign) {
             Some(awaited) => {
                 reported_url(self.alloc, birth, reported, awaited.message, &awaited.sms)
             }
