@@ -130,29 +130,32 @@ module _ {T : Type 0} (test : ℕ × T → Bool) where
         | false ↦ Rise-wider (pair.0 + 1) below from below (filter test pairs) (omega arith) (omega arith) rest
       ]
 
+  under_on : (from below number : ℕ) (value : T) (pair : ℕ × T) (pairs : List (ℕ × T)) (b : Bool) → test pair ≡ b → from ≤ pair.0 → Rise (pair.0 + 1) below pairs
+      → (value_under number (filter test pairs) ≡ Some value → (value_under number pairs ≡ Some value) × (test (number, value) ≡ true))
+      → value_under number (cond b (pair ∷ filter test pairs) (filter test pairs)) ≡ Some value
+      → (value_under number (pair ∷ pairs) ≡ Some value) × (test (number, value) ≡ true)
+  under_on from below number value pair pairs true passes low rise rest there =
+      by_number
+      (λ b. cond b (Some pair.1) (value_under number (filter test pairs)) ≡ Some value → (cond b (Some pair.1) (value_under number pairs) ≡ Some value) × (test (number, value) ≡ true)) pair.0 number
+      (λ e found.
+      let same : pair.1 ≡ value = cc in
+      let whole : ◌≡◌ {A = ℕ × T} pair (number, value) = ap (λ n. (n, pair.1)) e ∙ ap (λ v. (number, v)) same in
+      (found, ap test (sym whole) ∙ passes))
+      (λ ne found. rest found)
+      there
+  under_on from below number value pair pairs false fails low rise rest there =
+      let found = rest there in
+      by_number
+      (λ b. (cond b (Some pair.1) (value_under number pairs) ≡ Some value) × (test (number, value) ≡ true)) pair.0 number
+      (λ e. absurd (let none = value_under-before (pair.0 + 1) below number pairs (omega arith) rise in let t : Some value ≡ None = sym found.0 ∙ none in cc))
+      (λ ne. found)
+
   -- what is under a number then is under it, and passes
   under-filter : (from below number : ℕ) (value : T) (pairs : List (ℕ × T)) → Rise from below pairs → value_under number (filter test pairs) ≡ Some value
       → (value_under number pairs ≡ Some value) × (test (number, value) ≡ true)
   under-filter from below number value [] rise is = absurd cc
-  under-filter from below number value (pair ∷ pairs) rise is = by_test (test pair) refl is
-    where
-      by_test : (b : Bool) → test pair ≡ b → value_under number (cond b (pair ∷ filter test pairs) (filter test pairs)) ≡ Some value
-          → (value_under number (pair ∷ pairs) ≡ Some value) × (test (number, value) ≡ true)
-      by_test true passes there =
-          by_number
-          (λ b. cond b (Some pair.1) (value_under number (filter test pairs)) ≡ Some value → (cond b (Some pair.1) (value_under number pairs) ≡ Some value) × (test (number, value) ≡ true)) pair.0 number
-          (λ e found.
-          let same : pair.1 ≡ value = cc in
-          let whole : ◌≡◌ {A = ℕ × T} pair (number, value) = ap (λ n. (n, pair.1)) e ∙ ap (λ v. (number, v)) same in
-          (found, ap test (sym whole) ∙ passes))
-          (λ ne found. under-filter (pair.0 + 1) below number value pairs rise.2 found)
-          there
-      by_test false fails there =
-          let found = under-filter (pair.0 + 1) below number value pairs rise.2 there in
-          by_number
-          (λ b. (cond b (Some pair.1) (value_under number pairs) ≡ Some value) × (test (number, value) ≡ true)) pair.0 number
-          (λ e. absurd (let none = value_under-before (pair.0 + 1) below number pairs (omega arith) rise.2 in let t : Some value ≡ None = sym found.0 ∙ none in cc))
-          (λ ne. found)
+  under-filter from below number value (pair ∷ pairs) rise is =
+      under_on from below number value pair pairs (test pair) refl rise.0 rise.2 (λ there. under-filter (pair.0 + 1) below number value pairs rise.2 there) is
 
 -- a job that comes next, and that nobody has taken
 record IsFreeJob (state : State) (job : ℕ) : Type 0 where

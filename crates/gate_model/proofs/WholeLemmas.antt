@@ -1,5 +1,5 @@
 -- What keeps a state whole is kept by each thing that a gate does.
-use Rattle.std.proofs.Common.{◌≡◌, refl, sym, ap, ◌∙◌, subst, ℕ, ◌+◌, ◌*◌, ◌≤◌, ◌<◌, ◌^◌, zero, suc, Bool, List, [], ◌∷◌, length, map, Option, Some, None, arith, length-set, add-zero}
+use Rattle.std.proofs.Common.{◌≡◌, refl, sym, ap, ◌∙◌, subst, ℕ, ◌+◌, ◌*◌, ◌≤◌, ◌<◌, ◌^◌, zero, suc, Bool, List, [], ◌∷◌, ◌++◌, length, map, Option, Some, None, arith, length-set, add-zero}
 use Rattle.std.specs.Prelude.{slice_set, slice_index, IsSome, IsSomeAnd, replicate, false}
 use Rattle.std.specs.List.{range_with_len}
 use Rattle.std.proofs.lemmas.List.{append-nil, length-replicate}
@@ -11,7 +11,7 @@ use Rattle.gate_model.specs.declared.waiting.Waiting.{Waiting}
 use Rattle.gate_model.specs.Numbers.{Rise, value_under}
 use Rattle.gate_model.specs.declared.job.Job.{Job}
 use Rattle.gate_model.specs.State.{State, Lists, flight_of, flights, empty}
-use Rattle.gate_model.specs.Fold.{accepts, answers, arrives, calls, if_any, ends, leases, leases_arrival, counts_entry}
+use Rattle.gate_model.specs.Fold.{accepts, answers, arrives, calls, new_job, if_any, ends, leases, leases_arrival, counts_entry}
 use Rattle.gate_model.specs.Gate.{IsWhole, IsBounded, Becomes, model_of, rules_of}
 use Rattle.gate_model.specs.Lawful.{most_entries}
 use Rattle.gate_model.specs.Links.{raised, lowered}
@@ -31,19 +31,21 @@ becomes old new flight state rules flights places holds whole = record {
   places = places;
 }
 
--- and it is a gate, whatever places it has
-pub whole_by : (old new : Gate) (flight : List ℕ) (state : State) → rules_of new ≡ rules_of old → new.flight.items ≡ flight → model_of new ≡ state
-    → IsWhole (rules_of old) flight state → IsWhole new.rules new.flight.items (model_of new)
-whole_by old new flight state rules flights holds whole =
-    subst (λ r. IsWhole r new.flight.items (model_of new)) (sym rules)
-    (subst (λ f. IsWhole (rules_of old) f (model_of new)) (sym flights) (subst (λ s. IsWhole (rules_of old) flight s) (sym holds) whole))
-
 -- where no URL is called nothing changes
 pub calls_none : (state : State) → state ≡ calls None state
 calls_none state =
     let jobs = sym (append-nil state.jobs) in
     let last = sym (add-zero state.last_job) in
     (λ i. record state { jobs = jobs i; last_job = last i })
+
+pub called_none : (state : State) (url : Option (List ℕ)) → url ≡ None → state ≡ calls url state
+called_none state url none = calls_none state ∙ ap (λ u. calls u state) (sym none)
+
+-- where one is, it comes last
+pub called_one : (state : State) (url : Option (List ℕ)) (one : List ℕ) (pairs : List (ℕ × Job)) → url ≡ Some one
+    → pairs ≡ state.jobs ++ (state.last_job + 1, new_job one) ∷ [] → record state { jobs = pairs; last_job = state.last_job + 1 } ≡ calls url state
+called_one state url one pairs is pushed =
+    ap (λ ps. record state { jobs = ps; last_job = state.last_job + 1 }) pushed ∙ ap (λ u. calls u state) (sym is)
 
 -- the value under a number, where there is one
 pub some_value : {T : Type 0} (o : Option T) → IsSome o → (value : T) × (o ≡ Some value)

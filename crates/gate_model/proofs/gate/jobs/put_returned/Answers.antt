@@ -7,7 +7,7 @@ use Rattle.gate_model.proofs.gate.jobs.put_returned.Goals as goal
 
 pub returns-in-Some-clause-pairs : goal.returns-in-Some-clause-pairs
 returns-in-Some-clause-pairs c =
-    ap (λ n. with_value c.args.job (record c.in-Some.held.now { leased = false; returns = n }) c.args.jobs.now.pairs) c.saturating_add.ensures
+    ap (λ n. with_value c.args.job (record c.in-Some.held.now { leased = false; returns = n }) c.args.jobs.now.pairs) c.saturating_add-held.ensures
     ∙ with_change-value 1 c.requires.rising.0 c.args.job (λ j. record j { leased = false; returns = min (j.returns + 1) most_returns }) c.in-Some.held.now c.args.jobs.now.pairs
     c.requires.rising.1 (sym c.in-Some.ensures.value)
 
