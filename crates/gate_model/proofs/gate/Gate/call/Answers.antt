@@ -1,5 +1,4 @@
-use Rattle.std.proofs.Common.{◌≡◌, ◌+◌, sym, subst}
-use Rattle.gate_model.specs.Fold.{calls}
+use Rattle.std.proofs.Common.{◌+◌, sym, subst}
 use Rattle.gate_model.specs.Gate.{model_of, IsWhole}
 use Rattle.gate_model.specs.State.{State}
 use Rattle.gate_model.proofs.NumberLemmas.{AllBelow-Rise}
