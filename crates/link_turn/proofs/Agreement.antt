@@ -1,18 +1,17 @@
 -- What a link holds in a store, as entries come.
-use Rattle.std.proofs.Common.{◌≡◌, ◌≢◌, ◌∙◌, refl, sym, ap, subst, ℕ, zero, suc, ◌+◌, ◌<◌, ◌≤◌, Bool, true, false, cond, not, inl, inr, ◌⊎◌, List, [], ◌∷◌, ◌++◌, length, map, arith}
-use Rattle.std.specs.Prelude.{◌==◌, ◌↔◌, Option, Some, None, IsSomeAnd, option_map, slice_get, slice_set, count_by}
+use Rattle.std.proofs.Common.{◌≡◌, ◌≢◌, ◌∙◌, refl, sym, ap, subst, ℕ, Bool, false, cond, inl, inr, List, [], ◌∷◌}
+use Rattle.std.specs.Prelude.{◌==◌, Option, Some, None, IsSomeAnd, option_map, slice_get}
 use Rattle.std.specs.Option.{option_and_then}
-use Rattle.std.proofs.lemmas.Bool.{cases_Bool, cases_eq, eqb-true, eq-eqb, false≢true}
+use Rattle.std.proofs.lemmas.Bool.{cases_Bool, cases_eq, eqb-true}
 use Rattle.gate_model.specs.Gate.{lease_under}
 use Rattle.gate_model.specs.Lawful.{IsLeased}
-use Rattle.gate_model.specs.Numbers.{value_under, without, with_change, Rise}
-use Rattle.gate_model.specs.State.{State, is_link, flight_of}
+use Rattle.gate_model.specs.Numbers.{value_under, without, with_change}
+use Rattle.gate_model.specs.State.{State}
 use Rattle.gate_model.specs.declared.waiting.Waiting.{Waiting}
 use Rattle.numbered_table.proofs.PairLists.{value_under-without, value_under-without_other}
 use Rattle.link_turn.specs.Back.{IsAmong, without_message}
 use Rattle.link_turn.specs.Turn.{IsOf}
-use Rattle.link_turn.proofs.Uses.{other, same, among_without, among_before, not_among_without, among_push_cases, among_more, among_last}
-
+use Rattle.link_turn.proofs.Uses.{other, among_without, among_before, not_among_without}
 
 -- ---- a message that is held is leased
 
@@ -43,8 +42,8 @@ of_ended link message held up old new of we ue = record {
       | inr differ ↦ among_without k message held (λ e. differ (sym e)) ((of.leased k).0 (sym (other_lease k message old.waiting (λ e. differ (sym e))) ∙ sym (ap (lease_under k) we) ∙ leased))
     ]),
     (λ among.
-      let differ : message ≢ k = λ e. not_among_without message held (subst (λ (n : ℕ). IsAmong n (without_message message held)) (sym e) among) in
-      ap (lease_under k) we ∙ other_lease k message old.waiting differ ∙ (of.leased k).1 (among_before k message held among))
+        let differ : message ≢ k = λ e. not_among_without message held (subst (λ (n : ℕ). IsAmong n (without_message message held)) (sym e) among) in
+        ap (lease_under k) we ∙ other_lease k message old.waiting differ ∙ (of.leased k).1 (among_before k message held among)),
   );
   is_up = ap (λ (ups : List Bool). slice_get ups link) ue ∙ of.is_up;
 }
@@ -59,9 +58,9 @@ of_expired link message held up old new of free we ue = record {
       | inr differ ↦ (of.leased k).0 (sym (other_lease k message old.waiting (λ e. differ (sym e))) ∙ sym (ap (lease_under k) we) ∙ leased)
     ]),
     (λ among.
-      let here = (of.leased k).1 among in
-      let differ : message ≢ k = λ e. let e2 : None ≡ Some link = sym free ∙ subst (λ (n : ℕ). lease_under n old.waiting ≡ Some link) (sym e) here in cc in
-      ap (lease_under k) we ∙ other_lease k message old.waiting differ ∙ here)
+        let here = (of.leased k).1 among in
+        let differ : message ≢ k = λ e. let e2 : None ≡ Some link = sym free ∙ subst (λ (n : ℕ). lease_under n old.waiting ≡ Some link) (sym e) here in cc in
+        ap (lease_under k) we ∙ other_lease k message old.waiting differ ∙ here),
   );
   is_up = ap (λ (ups : List Bool). slice_get ups link) ue ∙ of.is_up;
 }

@@ -1,6 +1,6 @@
 -- A session goes on by what it is given.
-use Rattle.std.proofs.Common.{◌≡◌, ◌≢◌, ◌∙◌, refl, sym, ap, subst, ℕ, ◌+◌, ◌<◌, ◌≤◌, Bool, true, false, inl, inr, ◌⊎◌, List, [], ◌∷◌, ◌++◌, length, map, take, append_assoc, arith}
-use Rattle.std.specs.Prelude.{Option, Some, None, IfSome, ⊤, Result, Ok, Err}
+use Rattle.std.proofs.Common.{◌≡◌, ◌∙◌, refl, sym, ap, subst, ℕ, ◌≤◌, inl, inr, ◌⊎◌, List, [], ◌∷◌, ◌++◌}
+use Rattle.std.specs.Prelude.{Option, Some, None, Result}
 use Rattle.std.proofs.lemmas.List.{append-nil}
 use Rattle.gate_entries.specs.declared.passing.Passing.{Passing}
 use Rattle.gate_entries.specs.declared.passing.Passing.TheVariants.{Up, Returned}
@@ -9,19 +9,16 @@ use Rattle.gate_model.specs.declared.reply.Refusal.{Refusal}
 use Rattle.gate_model.specs.declared.reply.Reply.{Reply}
 use Rattle.gate_store.specs.declared.taken.Taken.{Taken}
 use Rattle.link_core.specs.Grammar.{IsFrame, HasFirst}
-use Rattle.link_core.specs.Streams.{AreFrames}
 use Rattle.link_core.specs.declared.heard.Heard.{Heard}
 use Rattle.link_core.specs.declared.out.Out.{Out}
 use Rattle.link_core.specs.declared.out.Out.TheVariants as out_is
-use Rattle.link_turn.specs.Steps.{Step, Deed, performed, passed, took, hears, says, records, passes, takes, leaves, heards_in, times_in, times_of_out, times_of_entry, said_in, deeds_in}
+use Rattle.link_turn.specs.Steps.{Step, passed, says, records, passes, takes, leaves, heards_in, times_in, times_of_out, times_of_entry, said_in, deeds_in}
 use Rattle.std.proofs.lemmas.Bool.{false≢true}
-use Rattle.link_turn.specs.Back.{held, is_up}
 use Rattle.link_turn.specs.Due.{Due, come_up, give_back, due, out_for}
-use Rattle.link_turn.specs.Session.{Talk, no_talk, messages, IsNew, GoesOn, spoken_in, heard_by, spoken_by, deeds_by, MayBeCut, IsCutShort}
-use Rattle.link_turn.specs.SessionSteps.{AreApart, IsAnswer, IsLast, with_step, handled, with_handled, message_said, message_ended, passed_step, Agrees, Keeps, Frames, Holds, IsReady, Owes, Ends, Begins, Heeds, IsToSay, Speaks, WasSaid, Records, WasRecorded, HasPassedIn, WasTaken, IsLeaving, IsOver, Stands, StandsIn, StandsBehind, StandsOn}
+use Rattle.link_turn.specs.Session.{Talk, no_talk, messages, GoesOn, spoken_in, heard_by, spoken_by, deeds_by, IsCutShort}
+use Rattle.link_turn.specs.SessionSteps.{AreApart, IsAnswer, with_step, handled, with_handled, message_said, message_ended, passed_step, Agrees, Keeps, Frames, Holds, IsReady, Owes, Ends, Begins, Heeds, IsToSay, Speaks, WasSaid, WasRecorded, HasPassedIn, WasTaken, IsOver, Stands, StandsIn, StandsBehind, StandsOn}
 use Rattle.link_turn.specs.Talk.{AreReadings, IsCause, BreaksOff, IsIdle, LinkTalk}
 use Rattle.link_turn.specs.declared.end_cause.EndCause.{EndCause}
-use Rattle.link_turn.specs.declared.end_cause.EndCause.TheVariants as end_is
 use Rattle.link_turn.specs.declared.given.Given.{Given}
 use Rattle.link_turn.specs.declared.given.Given.TheVariants as given_is
 use Rattle.link_turn.specs.declared.session.Phase.{Phase}
@@ -35,7 +32,6 @@ use Rattle.link_turn.specs.declared.terms.Terms.{Terms}
 use Rattle.link_turn.specs.declared.wish.Wish.{Wish}
 use Rattle.link_turn.specs.declared.wish.Wish.TheVariants as wish_is
 use Rattle.link_turn.proofs.Readings.{readings_more, frames_more}
-use Rattle.link_turn.proofs.Keeping.{AreAlike, holds_same}
 use Rattle.link_turn.proofs.Speaking.{timed_now}
 
 -- a talk with one reading more
@@ -228,7 +224,7 @@ module _ {C : Type 0} (hears_so : List ℕ → Heard → Type 0) (refuses : List
           spoken = sym (append-nil (spoken_in (said core) talk));
           deeds = refl;
         }),
-        record { ready = ready; frames = frames_more hears_so talk.heard octets (heards_in talk.steps) s.kept l.2 }
+        record { ready = ready; frames = frames_more hears_so talk.heard octets (heards_in talk.steps) s.kept l.2 },
       )
 
   -- it ends behind listening, for a cause that nothing due stands behind
@@ -247,7 +243,7 @@ module _ {C : Type 0} (hears_so : List ℕ → Heard → Type 0) (refuses : List
           rest = s.kept;
           frames = l.2;
           caused = caused (record { nothing_due = l.1.nothing_due; all_handled = l.3; whole = l.1.whole });
-        }
+        },
       )
 
   -- ---- behind the beginning
@@ -258,8 +254,8 @@ module _ {C : Type 0} (hears_so : List ℕ → Heard → Type 0) (refuses : List
       let f = subst (λ (p : Phase). StandsIn hears_so refuses said core terms p wish talk s) pe stands in
       let n = f.2 in (
         subst (λ (t : Talk). GoesOn (said core) wish given_is.Begin now cut t (with_reading now no_talk)) (sym f.1)
-        (subst (λ (w : Wish). GoesOn (said core) w given_is.Begin now cut no_talk (with_reading now no_talk)) (sym f.0)
-        (record { heard = refl; readings = refl; spoken = refl; deeds = refl })),
+            (subst (λ (w : Wish). GoesOn (said core) w given_is.Begin now cut no_talk (with_reading now no_talk)) (sym f.0)
+            (record { heard = refl; readings = refl; spoken = refl; deeds = refl })),
         record {
           keeps = record {
             agrees = record {
@@ -281,7 +277,7 @@ module _ {C : Type 0} (hears_so : List ℕ → Heard → Type 0) (refuses : List
           frames = sym n.kept;
           first = refl;
           whole = refl;
-        }
+        },
       )
 
   -- ---- behind saying
@@ -339,7 +335,7 @@ module _ {C : Type 0} (hears_so : List ℕ → Heard → Type 0) (refuses : List
           order = order;
           timed = readings_more (times_in talk.steps ++ times_of_out p.0) talk.readings now timed;
           whole = speaks.whole;
-        }
+        },
       )
 
   -- what was to be said was due
@@ -388,7 +384,7 @@ module _ {C : Type 0} (hears_so : List ℕ → Heard → Type 0) (refuses : List
           rest = s.kept;
           frames = speaks.frames;
           caused = caused breaks;
-        }
+        },
       )
 
   -- ---- behind the store
@@ -407,17 +403,21 @@ module _ {C : Type 0} (hears_so : List ℕ → Heard → Type 0) (refuses : List
           spoken = sym (append-nil (spoken_in (said core) talk));
           deeds = refl;
         }),
-        (recording, pe, record {
-          keeps = keeps_read now talk s r.keeps;
-          holds = holds_read (message_ended recording) now talk s r.holds;
-          frames = r.frames;
-          time = r.time;
-          entry = r.entry;
-          timed = readings_more (times_in talk.steps ++ times_of_entry p.0) talk.readings now r.timed;
-          to_record = r.to_record;
-          ends = r.ends;
-          whole = r.whole;
-        })
+        (
+          recording,
+          pe,
+          record {
+            keeps = keeps_read now talk s r.keeps;
+            holds = holds_read (message_ended recording) now talk s r.holds;
+            frames = r.frames;
+            time = r.time;
+            entry = r.entry;
+            timed = readings_more (times_in talk.steps ++ times_of_entry p.0) talk.readings now r.timed;
+            to_record = r.to_record;
+            ends = r.ends;
+            whole = r.whole;
+          },
+        ),
       )
 
   owes_read : (owed : Due) (one : Option ℕ) (now : ℕ) (talk : Talk) (s : Session C) → Owes hears_so refuses said core terms owed one talk s
@@ -446,32 +446,37 @@ module _ {C : Type 0} (hears_so : List ℕ → Heard → Type 0) (refuses : List
       × HasPassedIn hears_so refuses said core terms phase brief (with_reading now talk) (at now s)
   goes_passed now cut talk s wish ComingUp pe fits stands =
       (Up terms.link, goes_passed_so (passes (Up terms.link)) (Up terms.link) now cut talk wish stands.0 refl refl, (refl, owes_read come_up None now talk s stands.1, stands.2))
-  goes_passed now cut talk s wish (GivingBack message) pe fits stands =
-      (Returned message, goes_passed_so (passes (Returned message)) (Returned message) now cut talk wish stands.0 refl refl,
-      (refl, owes_read (give_back message) (Some message) now talk s stands.1, stands.2))
+  goes_passed now cut talk s wish (GivingBack message) pe fits stands = (
+    Returned message,
+    goes_passed_so (passes (Returned message)) (Returned message) now cut talk wish stands.0 refl refl,
+    (refl, owes_read (give_back message) (Some message) now talk s stands.1, stands.2),
+  )
   goes_passed now cut talk s wish (Leaving cause one) pe fits stands =
       let l = stands.2 in
-      let a = agrees_read now (with_step (leaves stands.0) talk) s l.agrees in
-      (stands.0, goes_passed_so (leaves stands.0) stands.0 now cut talk wish stands.1 refl refl, record {
-        agrees = record {
-          core_is = a.core_is;
-          terms_are = a.terms_are;
-          each = a.each;
-          timed = a.timed;
-          is_up = a.is_up;
-          apart = a.apart;
-        };
-        holds = record { others = l.holds.others; among = l.holds.among };
-        rest = l.rest;
-        frames = l.frames;
-        caused = l.caused;
-      })
-  goes_passed now cut talk s wish Fresh pe fits stands = absurd (elim fits [ | inl e ↦ cc | inr more ↦ elim more [ | inl e ↦ let is = e.1 in cc | inr e ↦ let is = e.2 in cc ] ])
-  goes_passed now cut talk s wish Listening pe fits stands = absurd (elim fits [ | inl e ↦ cc | inr more ↦ elim more [ | inl e ↦ let is = e.1 in cc | inr e ↦ let is = e.2 in cc ] ])
-  goes_passed now cut talk s wish (phase_is.Saying saying) pe fits stands = absurd (elim fits [ | inl e ↦ cc | inr more ↦ elim more [ | inl e ↦ let is = e.1 in cc | inr e ↦ let is = e.2 in cc ] ])
-  goes_passed now cut talk s wish (phase_is.Recording recording) pe fits stands = absurd (elim fits [ | inl e ↦ cc | inr more ↦ elim more [ | inl e ↦ let is = e.1 in cc | inr e ↦ let is = e.2 in cc ] ])
-  goes_passed now cut talk s wish Taking pe fits stands = absurd (elim fits [ | inl e ↦ cc | inr more ↦ elim more [ | inl e ↦ let is = e.1 in cc | inr e ↦ let is = e.2 in cc ] ])
-  goes_passed now cut talk s wish Done pe fits stands = absurd (elim fits [ | inl e ↦ cc | inr more ↦ elim more [ | inl e ↦ let is = e.1 in cc | inr e ↦ let is = e.2 in cc ] ])
+      let a = agrees_read now (with_step (leaves stands.0) talk) s l.agrees in (
+        stands.0,
+        goes_passed_so (leaves stands.0) stands.0 now cut talk wish stands.1 refl refl,
+        record {
+          agrees = record {
+            core_is = a.core_is;
+            terms_are = a.terms_are;
+            each = a.each;
+            timed = a.timed;
+            is_up = a.is_up;
+            apart = a.apart;
+          };
+          holds = record { others = l.holds.others; among = l.holds.among };
+          rest = l.rest;
+          frames = l.frames;
+          caused = l.caused;
+        },
+      )
+  goes_passed now cut talk s wish Fresh pe fits stands = absurd (elim fits [ inl e ↦ cc | inr more ↦ elim more [ inl e ↦ let is = e.1 in cc | inr e ↦ let is = e.2 in cc ] ])
+  goes_passed now cut talk s wish Listening pe fits stands = absurd (elim fits [ inl e ↦ cc | inr more ↦ elim more [ inl e ↦ let is = e.1 in cc | inr e ↦ let is = e.2 in cc ] ])
+  goes_passed now cut talk s wish (phase_is.Saying saying) pe fits stands = absurd (elim fits [ inl e ↦ cc | inr more ↦ elim more [ inl e ↦ let is = e.1 in cc | inr e ↦ let is = e.2 in cc ] ])
+  goes_passed now cut talk s wish (phase_is.Recording recording) pe fits stands = absurd (elim fits [ inl e ↦ cc | inr more ↦ elim more [ inl e ↦ let is = e.1 in cc | inr e ↦ let is = e.2 in cc ] ])
+  goes_passed now cut talk s wish Taking pe fits stands = absurd (elim fits [ inl e ↦ cc | inr more ↦ elim more [ inl e ↦ let is = e.1 in cc | inr e ↦ let is = e.2 in cc ] ])
+  goes_passed now cut talk s wish Done pe fits stands = absurd (elim fits [ inl e ↦ cc | inr more ↦ elim more [ inl e ↦ let is = e.1 in cc | inr e ↦ let is = e.2 in cc ] ])
 
   pub goes_taken : (outcome : Result (Option Taken) Refusal) (now : ℕ) (cut : List ℕ) (talk : Talk) (s : Session C) (wish : Wish) → s.phase ≡ Taking
       → Stands hears_so refuses said core terms wish talk s
@@ -493,5 +498,5 @@ module _ {C : Type 0} (hears_so : List ℕ → Heard → Type 0) (refuses : List
           up = p.3;
           unsearched = p.4;
           timed = readings_more (times_in talk.steps ++ s.latest ∷ []) talk.readings now (timed_now (times_in talk.steps) talk.readings s.latest r.keeps.agrees.timed r.keeps.latest);
-        }
+        },
       )

@@ -1,6 +1,6 @@
 -- A session looks at what it keeps, and at the clock.
-use Rattle.std.proofs.Common.{◌≡◌, ◌≢◌, ◌∙◌, refl, sym, ap, subst, ℕ, ◌+◌, ◌<◌, ◌≤◌, Bool, true, false, inl, inr, ◌⊎◌, List, [], ◌∷◌, ◌++◌, length, map, take, drop, append_assoc, arith, length-append}
-use Rattle.std.specs.Prelude.{All, Option, Some, None, IfSome, ⊤}
+use Rattle.std.proofs.Common.{◌≡◌, ◌∙◌, refl, sym, ap, subst, ℕ, ◌+◌, ◌<◌, ◌≤◌, Bool, true, false, inl, inr, ◌⊎◌, List, [], ◌∷◌, ◌++◌, length, take, drop, append_assoc, arith, length-append}
+use Rattle.std.specs.Prelude.{All, Option, Some, None, IfSome}
 use Rattle.std.specs.List.{Contains}
 use Rattle.std.proofs.lemmas.List.{append-nil, append_cancel_left}
 use Rattle.std.proofs.Common.{take-append-drop}
@@ -9,14 +9,13 @@ use Rattle.link_core.specs.Grammar.{IsFrame, HasFirst, NoneComes, IsGrammar}
 use Rattle.link_core.specs.Streams.{AreFrames}
 use Rattle.link_core.specs.declared.heard.Heard.{Heard}
 use Rattle.link_core.specs.declared.out.Out.{Out}
-use Rattle.link_turn.specs.Steps.{Step, heards_in, hears}
-use Rattle.link_turn.specs.Back.{open_login, in_use, is_up, last_said, found_none}
-use Rattle.link_turn.specs.Due.{due, nothing}
+use Rattle.link_turn.specs.Steps.{heards_in}
+use Rattle.link_turn.specs.Back.{is_up, last_said}
 use Rattle.std.specs.Prelude.{find, option_map, ◌-◌, ◌&&◌, not, nat_lt, nat_le}
 use Rattle.std.proofs.lemmas.Bool.{cases_Bool, ltb-true, ltb-false, leb-false, false≢true}
 use Rattle.std.proofs.lemmas.List.Elements.{All-nil, All-cons, Contains-append_left, Contains-append_right, Contains-push}
 use Rattle.link_turn.specs.Session.{Talk, Rests, IsLate, IsTimely, Waits, NoneIsLate, is_late}
-use Rattle.link_turn.specs.SessionSteps.{Agrees, Keeps, Frames, Holds, IsReady, Ends, Heeds, Faces, WasSilent, Stands, StandsIn, StandsBehind, with_handled, with_step}
+use Rattle.link_turn.specs.SessionSteps.{Keeps, Frames, IsReady, Ends, Heeds, Faces, Stands, StandsIn}
 use Rattle.link_turn.specs.Talk.{IsIdle, IsUnanswered, IsCause}
 use Rattle.link_turn.specs.declared.end_cause.EndCause.{EndCause}
 use Rattle.link_turn.specs.declared.end_cause.EndCause.TheVariants as end_is
@@ -126,9 +125,13 @@ module _ {C : Type 0} (hears_so : List ℕ → Heard → Type 0) (refuses : List
       → t.in_use.items ≡ s.in_use.items → t.login ≡ s.login → t.kept ≡ s.kept → t.phase ≡ Taking → s.up ≡ true → t.searched ≡ false → wish ≡ wish_is.TakeNext t.latest
       → Stands hears_so refuses said core terms wish talk t
   takes_so talk s t wish r f like ie le ke pe up isnt we =
-      subst (λ (p : Phase). StandsIn hears_so refuses said core terms p wish talk t) (sym pe)
-      (we, ready_same hears_so refuses said core terms talk s t like ie le r, subst (λ (kept : List ℕ). AreFrames hears_so talk.heard (heards_in talk.steps) kept) (sym ke) f,
-      sym r.keeps.agrees.is_up ∙ up, isnt)
+      subst (λ (p : Phase). StandsIn hears_so refuses said core terms p wish talk t) (sym pe) (
+        we,
+        ready_same hears_so refuses said core terms talk s t like ie le r,
+        subst (λ (kept : List ℕ). AreFrames hears_so talk.heard (heards_in talk.steps) kept) (sym ke) f,
+        sym r.keeps.agrees.is_up ∙ up,
+        isnt,
+      )
 
   pub listens_so : (talk : Talk) (s t : Session C) (wish : Wish) → IsReady hears_so refuses said core terms talk s → Frames hears_so refuses said core terms talk s → AreAlike s t
       → t.in_use.items ≡ s.in_use.items → t.login ≡ s.login → t.kept ≡ s.kept → t.phase ≡ Listening → wish ≡ wish_is.Listen → ¬ HasFirst (IsFrame hears_so) s.kept → NoneIsLate s
@@ -152,9 +155,13 @@ module _ {C : Type 0} (hears_so : List ℕ → Heard → Type 0) (refuses : List
           | inr soon ↦ inr (subst (λ (x : Terms). s.latest < last_said talk.steps + x.keepalive) te (subst (λ (l : ℕ). s.latest < l + s.terms.keepalive) k.spoke soon))
         ];
       } in
-      subst (λ (p : Phase). StandsIn hears_so refuses said core terms p wish talk t) (sym pe)
-      (we, ready_same hears_so refuses said core terms talk s t like ie le r, subst (λ (kept : List ℕ). AreFrames hears_so talk.heard (heards_in talk.steps) kept) (sym ke) f,
-      subst (λ (kept : List ℕ). ¬ HasFirst (IsFrame hears_so) kept) (sym ke) front, subst (λ (now : ℕ). Rests terms now talk.steps) (sym like.now) rests)
+      subst (λ (p : Phase). StandsIn hears_so refuses said core terms p wish talk t) (sym pe) (
+        we,
+        ready_same hears_so refuses said core terms talk s t like ie le r,
+        subst (λ (kept : List ℕ). AreFrames hears_so talk.heard (heards_in talk.steps) kept) (sym ke) f,
+        subst (λ (kept : List ℕ). ¬ HasFirst (IsFrame hears_so) kept) (sym ke) front,
+        subst (λ (now : ℕ). Rests terms now talk.steps) (sym like.now) rests,
+      )
 
 -- ---- what waits too long
 

@@ -1,6 +1,6 @@
 -- Tags that are tried one after the other: among one more than are in use, one is free.
-use Rattle.std.proofs.Common.{◌≡◌, ◌≢◌, ◌∙◌, refl, sym, ap, subst, ℕ, zero, suc, ◌+◌, ◌<◌, ◌≤◌, Bool, true, false, not, cond, inl, inr, ◌⊎◌, List, [], ◌∷◌, ◌++◌, length, arith}
-use Rattle.std.specs.Prelude.{◌==◌, ◌↔◌, IsTrue, filter, find, Option, Some, None}
+use Rattle.std.proofs.Common.{◌≡◌, ◌≢◌, ◌∙◌, refl, sym, ap, subst, ℕ, zero, suc, ◌+◌, ◌<◌, ◌≤◌, Bool, true, false, not, inl, inr, ◌⊎◌, List, [], ◌∷◌, length, arith}
+use Rattle.std.specs.Prelude.{◌↔◌, IsTrue, Option, Some, None}
 use Rattle.std.specs.List.{list_any}
 use Rattle.std.proofs.lemmas.Bool.{cases_Bool, cases_eq, eqb-true, false≢true}
 use Rattle.link_core.specs.Tags.{nth_tag, AreTags}
@@ -71,8 +71,8 @@ pub pigeons : (f : ℕ → ℕ) (count : ℕ) (uses : List Submitted) → ((i : 
 pigeons f zero uses used apart = omega arith
 pigeons f (suc count) uses used apart =
     let rest = pigeons f count (without_tag (f count) uses)
-        (λ i less free. used i (omega (arith, less)) (free_before (f i) (f count) uses (apart i count less (omega arith)) free))
-        (λ i j less below. apart i j less (omega (arith, below))) in
+    (λ i less free. used i (omega (arith, less)) (free_before (f i) (f count) uses (apart i count less (omega arith)) free))
+    (λ i j less below. apart i j less (omega (arith, below))) in
     let one = shorter (f count) uses (used count (omega arith)) in
     omega (arith, rest, one)
 
@@ -110,7 +110,7 @@ tag_is_free next tags holds first uses tag are few used is =
             | inr last ↦ subst (λ (k : ℕ). ¬ IsFree (nth_tag next (first + k)) uses) (sym last) (subst (λ (t : ℕ). ¬ IsFree t uses) is taken)
           ] in
           let many = pigeons (λ i. nth_tag next (first + i)) (length uses + 1) uses all
-              (λ i j less below. are.apart (first + i) (first + j) (omega (arith, less)) (omega (arith, below, few))) in
+          (λ i j less below. are.apart (first + i) (first + j) (omega (arith, less)) (omega (arith, below, few))) in
           absurd (omega (arith, many))
     ]
 

@@ -1,7 +1,7 @@
 -- Messages under tags, and messages that are held.
-use Rattle.std.proofs.Common.{◌≡◌, ◌≢◌, ◌∙◌, refl, sym, ap, subst, ℕ, suc, ◌+◌, ◌<◌, ◌≤◌, Bool, true, false, cond, not, inl, inr, ◌⊎◌, List, [], ◌∷◌, ◌++◌, length, map, arith}
-use Rattle.std.specs.Prelude.{◌==◌, filter, find, Option, Some, None, option_map}
-use Rattle.std.proofs.lemmas.Bool.{cases_Bool, eqb-true, eqb-false, eq-eqb, false≢true}
+use Rattle.std.proofs.Common.{◌≡◌, ◌≢◌, ◌∙◌, refl, sym, ap, subst, ℕ, true, false, inl, inr, ◌⊎◌, List, [], ◌∷◌, ◌++◌}
+use Rattle.std.specs.Prelude.{◌==◌, Some, None}
+use Rattle.std.proofs.lemmas.Bool.{cases_Bool, eqb-true, eq-eqb, false≢true}
 use Rattle.link_turn.specs.Back.{has_tag, without_tag, message_under, IsFree, without_message, IsAmong}
 use Rattle.link_turn.specs.Session.{messages}
 use Rattle.link_turn.specs.SessionSteps.{AreApart}
@@ -208,7 +208,7 @@ apart-push (submitted ∷ uses) last apart free none =
     λ e. none (subst (λ (m : ℕ). IsAmong m (submitted.message ∷ messages uses)) (sym e) (among_head submitted.message (messages uses))) in (
       free_push submitted.asked.tag uses last apart.0 tags,
       messages-push submitted.message uses last apart.1 differ,
-      apart-push uses last apart.2 (free_behind last.asked.tag submitted uses free) (λ among. none (among_tail last.message submitted.message (messages uses) among))
+      apart-push uses last apart.2 (free_behind last.asked.tag submitted uses free) (λ among. none (among_tail last.message submitted.message (messages uses) among)),
     )
 
 -- the message under a tag goes with the tag, and was there
@@ -224,14 +224,14 @@ apart_found tag message (submitted ∷ uses) apart found =
           let free : IsFree tag uses = subst (λ (g : ℕ). IsFree g uses) t apart.0 in
           let all : without_message submitted.message (submitted.message ∷ messages uses) ≡ messages uses = without_head submitted.message (messages uses) apart.1 in (
             rw is (subst (λ (m : ℕ). without_message m (submitted.message ∷ messages uses) ≡ messages (without_tag tag uses)) e
-            (all ∙ ap messages (sym (without_free tag uses free)))),
-            subst (λ (m : ℕ). IsAmong m (submitted.message ∷ messages uses)) e (among_head submitted.message (messages uses))
+                (all ∙ ap messages (sym (without_free tag uses free)))),
+            subst (λ (m : ℕ). IsAmong m (submitted.message ∷ messages uses)) e (among_head submitted.message (messages uses)),
           )
       | inr stays ↦
           let rest = apart_found tag message uses apart.2 (rw stays at found) in
           let differ : submitted.message ≢ message = λ e. apart.1 (subst (λ (m : ℕ). IsAmong m (messages uses)) (sym e) rest.1) in (
             rw (stays, other submitted.message message differ) (ap (λ ms. submitted.message ∷ ms) rest.0),
-            among_tail message submitted.message (messages uses) rest.1
+            among_tail message submitted.message (messages uses) rest.1,
           )
     ]
 

@@ -6,7 +6,6 @@ ghost use Rattle.link_turn.specs.Session as spec;
 ghost use Rattle.link_turn.specs.SessionSteps as steps;
 ghost use Rattle.link_turn.specs.declared.wish.Wish.{Wish as Wishes};
 
-
 mod answering;
 mod ending;
 mod handling;

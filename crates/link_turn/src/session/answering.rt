@@ -20,7 +20,7 @@ use sms_record::Sms;
 /// The end by a refusal. No entry of a link is refused for its route.
 fn end_by(refusal: Refusal) -> EndCause
     ensures { result ≡ due.end_by refusal }
-    {
+{
     match refusal {
         Refusal::Full { .. } => EndCause::Full,
         Refusal::Disk => EndCause::Disk,

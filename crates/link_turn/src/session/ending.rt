@@ -13,7 +13,7 @@ use link_core::LinkCore;
 /// The message that is being said.
 fn message_in(phase: Phase) -> Option<u64>
     ensures { result ≡ steps.message_in phase }
-    {
+{
     match phase {
         Phase::Saying(Saying::Submit { message, .. }) => Some(message),
         _ => None,

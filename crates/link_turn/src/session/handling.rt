@@ -56,9 +56,7 @@ impl<C: LinkCore> Session<C> {
             Heard::Message { tag, sms } => Some(self.arrived(tag, sms)),
             Heard::Keep { tag } => Some(self.answer(&Out::KeepReply { tag })),
             Heard::Strange { tag, id } => Some(self.answer(&Out::Nack { tag, id })),
-            Heard::Bye { tag } => {
-                Some(self.say(&Out::ByeReply { tag }, Saying::Farewell, None))
-            }
+            Heard::Bye { tag } => { Some(self.say(&Out::ByeReply { tag }, Saying::Farewell, None)) }
             Heard::KeepReply { .. } | Heard::ByeReply { .. } => None,
         }
     }

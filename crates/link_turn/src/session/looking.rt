@@ -18,9 +18,7 @@ fn late_message(uses: &[Submitted], now: u64, wait_ack: u32) -> Option<Asked>
     ensures { result ≡ option_map (λ submitted. submitted.asked) (find (λ submitted. spec.is_late now wait_ack submitted.asked) uses.now) }
 {
     let most = u64::from(wait_ack);
-    let found = uses
-        .iter()
-        .find(|submitted| now.saturating_sub(submitted.asked.said) > most);
+    let found = uses.iter().find(|submitted| now.saturating_sub(submitted.asked.said) > most);
     Some(found?.asked)
 }
 

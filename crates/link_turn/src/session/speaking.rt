@@ -14,8 +14,8 @@ ghost use Rattle.link_turn.specs.Session as spec;
 use super::{Phase, Saying, Session};
 use crate::submitted::{Asked, Submitted};
 use crate::{EndCause, Wish};
-use link_core::{LinkCore, Out};
 use kn_base::Memory;
+use link_core::{LinkCore, Out};
 
 impl<C: LinkCore> Session<C> {
     // Says the login.
@@ -106,7 +106,10 @@ impl<C: LinkCore> Session<C> {
         ensures wished { spec.IsWished C.tags C.next_tag C.holds C.hears C.most result self.new }
         ensures law { steps.Always (λ core terms talk. (sms : Sms) → (time : ℕ) → steps.WasSubmitted C.hears C.refuses C.said core terms tag message sms time talk self.old → steps.StandsBehind C.hears C.refuses C.said core terms result (steps.with_step (step.says (Out.Submit tag message sms time) self.old.latest) talk) self.new) }
     {
-        let asked = Asked { tag, said: self.latest };
+        let asked = Asked {
+            tag,
+            said: self.latest,
+        };
         match self.in_use.push(Submitted { message, asked }) {
             Ok(()) => self.look(),
             Err(_) => self.end(EndCause::Memory, Some(message)),
@@ -144,6 +147,8 @@ impl<C: LinkCore> Session<C> {
     fn is_in_use(&self, tag: u32) -> bool
         ensures { result ≡ list_any (has_tag tag) self.now.in_use.items }
     {
-        self.in_use.iter().any(|submitted| submitted.asked.tag == tag)
+        self.in_use
+            .iter()
+            .any(|submitted| submitted.asked.tag == tag)
     }
 }

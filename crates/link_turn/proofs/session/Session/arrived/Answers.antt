@@ -8,7 +8,7 @@ use Rattle.link_turn.proofs.Handling.{records_then}
 use Rattle.link_turn.proofs.session.Session.arrived.Goals as goal
 
 pub returns-clause-wished : goal.returns-clause-wished
-returns-clause-wished g c = 
+returns-clause-wished g c =
     let w = c.requires.well in
     let smsc : length c.in-Ok-Ok.smsc ≤ MOST_NAME = subst (λ (x : List ℕ). length x ≤ MOST_NAME) (sym c.in-Ok-Ok.ensures) w.smsc in
     let own : length c.in-Ok-Ok.own ≤ MOST_NAME = subst (λ (x : List ℕ). length x ≤ MOST_NAME) (sym c.in-Ok-Ok.ensures') w.smsc in

@@ -24,9 +24,11 @@ pub returns-in-Ok-Bad-clause-law : goal.returns-in-Ok-Bad-clause-law
 returns-in-Ok-Bad-clause-law g c = λ core terms talk ready frames.
     let i = c.loop-heard.invariant.law core terms talk ready frames in
     let told = subst (λ (o : List ℕ). Tells g.C.LinkCore.hears g.C.LinkCore.refuses o (framed.Bad c.in-Ok-Bad.at c.in-Ok-Bad.code)) c.as_slice.ensures
-    (subst (λ (x : Framed). Tells g.C.LinkCore.hears g.C.LinkCore.refuses c.as_slice.result.now x) c.in-Ok-Bad.field-0-is c.in-Ok-Bad.ensures.read.told) in
-    (i.0, c.end.ensures.law core terms (with_handled i.0 talk) (ends_idle g.C.LinkCore.hears g.C.LinkCore.refuses g.C.LinkCore.said core terms (end_is.BadFrame c.in-Ok-Bad.at c.in-Ok-Bad.code) (with_handled i.0 talk) c.loop-heard.self i.1 i.2
-    (idle_here g.C.LinkCore.hears g.C.LinkCore.refuses g.C.LinkCore.said core terms (with_handled i.0 talk) c.loop-heard.self i.1 (none_has_none g.C.LinkCore.hears c.loop-heard.self.kept told.0), told.0, told.1)))
+    (subst (λ (x : Framed). Tells g.C.LinkCore.hears g.C.LinkCore.refuses c.as_slice.result.now x) c.in-Ok-Bad.field-0-is c.in-Ok-Bad.ensures.read.told) in (
+      i.0,
+      c.end.ensures.law core terms (with_handled i.0 talk) (ends_idle g.C.LinkCore.hears g.C.LinkCore.refuses g.C.LinkCore.said core terms (end_is.BadFrame c.in-Ok-Bad.at c.in-Ok-Bad.code) (with_handled i.0 talk) c.loop-heard.self i.1 i.2
+          (idle_here g.C.LinkCore.hears g.C.LinkCore.refuses g.C.LinkCore.said core terms (with_handled i.0 talk) c.loop-heard.self i.1 (none_has_none g.C.LinkCore.hears c.loop-heard.self.kept told.0), told.0, told.1)),
+    )
 
 pub returns-in-Err-clause-law : goal.returns-in-Err-clause-law
 returns-in-Err-clause-law g c = λ core terms talk ready frames.
@@ -47,12 +49,12 @@ pub loop-heard-preserved : goal.loop-heard-preserved
 loop-heard-preserved g c = record {
   well = subst (λ (o : Option Wish). IsWishedThen g.C.LinkCore.tags g.C.LinkCore.next_tag g.C.LinkCore.holds g.C.LinkCore.hears g.C.LinkCore.most o c.handle.new.self) c.in_default.is c.handle.ensures.wished;
   law = λ core terms talk ready frames.
-    let told = subst (λ (o : List ℕ). Tells g.C.LinkCore.hears g.C.LinkCore.refuses o (framed.Whole c.in-Ok-Whole.heard c.in-Ok-Whole.len)) c.as_slice.ensures
-    (subst (λ (x : Framed). Tells g.C.LinkCore.hears g.C.LinkCore.refuses c.as_slice.result.now x) c.in-Ok-Whole.field-0-is c.in-Ok-Whole.ensures.read.told) in
-    let i = c.loop-heard.invariant.law core terms talk ready frames in
-    let a = front_dropped c.in-Ok-Whole.len c.loop-heard.self c.drop_front.new.self c.drop_front.ensures in
-    let f = faces g.C.LinkCore.hears g.C.LinkCore.refuses g.C.LinkCore.said core terms c.in-Ok-Whole.heard c.in-Ok-Whole.len (with_handled i.0 talk) c.loop-heard.self c.drop_front.new.self i.1 i.2 a.0 a.1 a.2 a.3 (told.0) in
-    let h = c.handle.ensures.law core terms (with_handled i.0 talk) f in
-    let q = subst (λ (o : Option Wish). StandsThen g.C.LinkCore.hears g.C.LinkCore.refuses g.C.LinkCore.said core terms o (with_step (hears c.in-Ok-Whole.heard) (with_handled i.0 talk)) c.handle.new.self) c.in_default.is h in
-    (c.in-Ok-Whole.heard ∷ i.0, q.0, q.1);
+      let told = subst (λ (o : List ℕ). Tells g.C.LinkCore.hears g.C.LinkCore.refuses o (framed.Whole c.in-Ok-Whole.heard c.in-Ok-Whole.len)) c.as_slice.ensures
+      (subst (λ (x : Framed). Tells g.C.LinkCore.hears g.C.LinkCore.refuses c.as_slice.result.now x) c.in-Ok-Whole.field-0-is c.in-Ok-Whole.ensures.read.told) in
+      let i = c.loop-heard.invariant.law core terms talk ready frames in
+      let a = front_dropped c.in-Ok-Whole.len c.loop-heard.self c.drop_front.new.self c.drop_front.ensures in
+      let f = faces g.C.LinkCore.hears g.C.LinkCore.refuses g.C.LinkCore.said core terms c.in-Ok-Whole.heard c.in-Ok-Whole.len (with_handled i.0 talk) c.loop-heard.self c.drop_front.new.self i.1 i.2 a.0 a.1 a.2 a.3 (told.0) in
+      let h = c.handle.ensures.law core terms (with_handled i.0 talk) f in
+      let q = subst (λ (o : Option Wish). StandsThen g.C.LinkCore.hears g.C.LinkCore.refuses g.C.LinkCore.said core terms o (with_step (hears c.in-Ok-Whole.heard) (with_handled i.0 talk)) c.handle.new.self) c.in_default.is h in
+      (c.in-Ok-Whole.heard ∷ i.0, q.0, q.1);
 }

@@ -106,10 +106,10 @@ returns-in-Starved-clause-law g c = λ core terms talk wish cut stands may.
     let may' = subst (λ (x : Given). MayBeCut wish x cut) c.in-Starved.is may in
     subst (λ (x : Given). StandsOn g.C.LinkCore.hears g.C.LinkCore.refuses g.C.LinkCore.said core terms wish x c.args.now cut talk c.broken-in-Starved.result c.broken-in-Starved.new.self) (sym c.in-Starved.is)
     (elim fits [
-    | inl listening ↦ let q = goes_over g.C.LinkCore.hears g.C.LinkCore.refuses g.C.LinkCore.said core terms given_is.Starved end_is.Memory c.args.now cut talk c.args.self.now wish listening stands refl refl refl (λ idle. inl idle.whole) in
-      stands_on g.C.LinkCore.hears g.C.LinkCore.refuses g.C.LinkCore.said core terms wish c.broken-in-Starved.result given_is.Starved c.args.now cut talk (with_reading c.args.now talk) c.broken-in-Starved.new.self q.0
-      (c.broken-in-Starved.ensures.law core terms (with_reading c.args.now talk) (subst (λ (p : Phase). Ends g.C.LinkCore.hears g.C.LinkCore.refuses g.C.LinkCore.said core terms end_is.Memory (message_in p) (with_reading c.args.now talk) (record c.args.self.now { latest = c.args.now })) (sym listening) q.1))
-    | inr saying ↦ let q = goes_broken g.C.LinkCore.hears g.C.LinkCore.refuses g.C.LinkCore.said core terms given_is.Starved end_is.Memory saying.0 c.args.now cut talk c.args.self.now wish saying.1 stands refl (λ o. refl) (λ o. refl) (λ o e. subst (λ (w : Wish). MayBeCut w given_is.Starved cut) e may') (λ off. inr off) in
-      stands_on g.C.LinkCore.hears g.C.LinkCore.refuses g.C.LinkCore.said core terms wish c.broken-in-Starved.result given_is.Starved c.args.now cut talk (record (with_reading c.args.now talk) { cut = cut }) c.broken-in-Starved.new.self q.0
-    (c.broken-in-Starved.ensures.law core terms (record (with_reading c.args.now talk) { cut = cut }) (subst (λ (p : Phase). Ends g.C.LinkCore.hears g.C.LinkCore.refuses g.C.LinkCore.said core terms end_is.Memory (message_in p) (record (with_reading c.args.now talk) { cut = cut }) (record c.args.self.now { latest = c.args.now })) (sym saying.1) q.1))
+      | inl listening ↦ let q = goes_over g.C.LinkCore.hears g.C.LinkCore.refuses g.C.LinkCore.said core terms given_is.Starved end_is.Memory c.args.now cut talk c.args.self.now wish listening stands refl refl refl (λ idle. inl idle.whole) in
+          stands_on g.C.LinkCore.hears g.C.LinkCore.refuses g.C.LinkCore.said core terms wish c.broken-in-Starved.result given_is.Starved c.args.now cut talk (with_reading c.args.now talk) c.broken-in-Starved.new.self q.0
+          (c.broken-in-Starved.ensures.law core terms (with_reading c.args.now talk) (subst (λ (p : Phase). Ends g.C.LinkCore.hears g.C.LinkCore.refuses g.C.LinkCore.said core terms end_is.Memory (message_in p) (with_reading c.args.now talk) (record c.args.self.now { latest = c.args.now })) (sym listening) q.1))
+      | inr saying ↦ let q = goes_broken g.C.LinkCore.hears g.C.LinkCore.refuses g.C.LinkCore.said core terms given_is.Starved end_is.Memory saying.0 c.args.now cut talk c.args.self.now wish saying.1 stands refl (λ o. refl) (λ o. refl) (λ o e. subst (λ (w : Wish). MayBeCut w given_is.Starved cut) e may') (λ off. inr off) in
+          stands_on g.C.LinkCore.hears g.C.LinkCore.refuses g.C.LinkCore.said core terms wish c.broken-in-Starved.result given_is.Starved c.args.now cut talk (record (with_reading c.args.now talk) { cut = cut }) c.broken-in-Starved.new.self q.0
+          (c.broken-in-Starved.ensures.law core terms (record (with_reading c.args.now talk) { cut = cut }) (subst (λ (p : Phase). Ends g.C.LinkCore.hears g.C.LinkCore.refuses g.C.LinkCore.said core terms end_is.Memory (message_in p) (record (with_reading c.args.now talk) { cut = cut }) (record c.args.self.now { latest = c.args.now })) (sym saying.1) q.1))
     ])

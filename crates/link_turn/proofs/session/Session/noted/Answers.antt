@@ -2,7 +2,6 @@ use Rattle.std.proofs.Common.{[], subst, sym}
 use Rattle.std.specs.Prelude.{Ok, Err, None}
 use Rattle.std.specs.Prelude.{Result}
 use Rattle.gate_model.specs.declared.reply.Refusal.{Refusal}
-use Rattle.gate_model.specs.declared.reply.Refusal.TheVariants as refusal_is
 use Rattle.gate_model.specs.declared.reply.Reply.{Reply}
 use Rattle.link_turn.specs.Steps.{records}
 use Rattle.link_turn.specs.SessionSteps.{with_step, Ends, StandsBehind}
@@ -18,6 +17,8 @@ returns-in-Ok-clause-law g c = λ core terms talk kept r.
 
 pub returns-in-Err-clause-law : goal.returns-in-Err-clause-law
 returns-in-Err-clause-law g c = λ core terms talk kept r.
-    subst (λ (o : Result Reply Refusal). StandsBehind g.C.LinkCore.hears g.C.LinkCore.refuses g.C.LinkCore.said core terms c.end.result (with_step (records kept o) talk) c.end.new.self) (sym c.in-Err.is)
-    ([], c.end.ensures.law core terms (with_step (records kept (Err c.in-Err.refusal)) talk) (subst (λ (cause : EndCause). Ends g.C.LinkCore.hears g.C.LinkCore.refuses g.C.LinkCore.said core terms cause None (with_step (records kept (Err c.in-Err.refusal)) talk) c.args.self.now) (sym c.end_by.ensures)
-    (report_refused g.C.LinkCore.hears g.C.LinkCore.refuses g.C.LinkCore.said core terms c.args.tag kept c.in-Err.refusal talk c.args.self.now r)))
+    subst (λ (o : Result Reply Refusal). StandsBehind g.C.LinkCore.hears g.C.LinkCore.refuses g.C.LinkCore.said core terms c.end.result (with_step (records kept o) talk) c.end.new.self) (sym c.in-Err.is) (
+      [],
+      c.end.ensures.law core terms (with_step (records kept (Err c.in-Err.refusal)) talk) (subst (λ (cause : EndCause). Ends g.C.LinkCore.hears g.C.LinkCore.refuses g.C.LinkCore.said core terms cause None (with_step (records kept (Err c.in-Err.refusal)) talk) c.args.self.now) (sym c.end_by.ensures)
+          (report_refused g.C.LinkCore.hears g.C.LinkCore.refuses g.C.LinkCore.said core terms c.args.tag kept c.in-Err.refusal talk c.args.self.now r)),
+    )

@@ -11,6 +11,8 @@ returns-in-Ok-clause-law g c = λ core terms talk sms time w.
     (submitted_ready g.C.LinkCore.hears g.C.LinkCore.refuses g.C.LinkCore.said core terms c.args.tag c.args.message sms time talk c.args.self.now _ w (record { core = refl; terms = refl; up = refl; now = refl; spoke = refl; found = λ yes. yes }) refl c.in-Ok.ensures.items) w.frames
 
 pub returns-in-Err-clause-law : goal.returns-in-Err-clause-law
-returns-in-Err-clause-law g c = λ core terms talk sms time w.
-    ([], c.end.ensures.law core terms (with_step (says (Submit c.args.tag c.args.message sms time) c.args.self.now.latest) talk)
-    (submitted_not g.C.LinkCore.hears g.C.LinkCore.refuses g.C.LinkCore.said core terms c.args.tag c.args.message sms time talk c.args.self.now _ w (record { core = refl; terms = refl; up = refl; now = refl; spoke = refl; found = λ yes. yes }) c.in-Err.ensures.items))
+returns-in-Err-clause-law g c = λ core terms talk sms time w. (
+  [],
+  c.end.ensures.law core terms (with_step (says (Submit c.args.tag c.args.message sms time) c.args.self.now.latest) talk)
+      (submitted_not g.C.LinkCore.hears g.C.LinkCore.refuses g.C.LinkCore.said core terms c.args.tag c.args.message sms time talk c.args.self.now _ w (record { core = refl; terms = refl; up = refl; now = refl; spoke = refl; found = λ yes. yes }) c.in-Err.ensures.items),
+)

@@ -13,7 +13,7 @@ loop-tried-init g c = record {
 }
 
 pub loop-tried-preserved : goal.loop-tried-preserved
-loop-tried-preserved g c = 
+loop-tried-preserved g c =
     let same : c.loop-tried.self.in_use.items ≡ c.args.self.now.in_use.items = ap (λ (x : Session g.row.C.Denot). x.in_use.items) c.loop-tried.invariant.same in
     let used : ¬ IsFree c.next_tag-tag.result c.loop-tried.self.in_use.items = λ free. false≢true (sym c.if-is_free.false ∙ c.is_free.ensures.1 free) in
     record {
@@ -23,7 +23,7 @@ loop-tried-preserved g c =
     }
 
 pub returns-clause-free : goal.returns-clause-free
-returns-clause-free g c = 
+returns-clause-free g c =
     let same : c.loop-tried.self.in_use.items ≡ c.args.self.now.in_use.items = ap (λ (x : Session g.row.C.Denot). x.in_use.items) c.loop-tried.invariant.same in
     let all : c.loop-tried.tried ≡ length c.args.self.now.in_use.items = omega (arith, c.loop-tried-test.false, c.loop-tried.auto.tried-end, c.len-tried-end.ensures) in
     let few : length c.args.self.now.in_use.items + 1 < g.C.LinkCore.tags = omega (arith, c.requires.well.few, c.requires.well.enough) in

@@ -1,11 +1,8 @@
 use Rattle.std.proofs.Common.{[], subst, sym}
-use Rattle.std.specs.Prelude.{Option, Ok, Err, None}
+use Rattle.std.specs.Prelude.{Option, Err, None}
 use Rattle.std.specs.Prelude.{Result}
 use Rattle.gate_model.specs.declared.reply.Refusal.{Refusal}
-use Rattle.gate_model.specs.declared.reply.Refusal.TheVariants as refusal_is
-use Rattle.gate_model.specs.declared.reply.Reply.{Reply}
 use Rattle.gate_store.specs.declared.taken.Taken.{Taken}
-use Rattle.gate_store.specs.declared.taken.Taken.TheVariants as taken
 use Rattle.link_turn.specs.Steps.{takes}
 use Rattle.link_turn.specs.SessionSteps.{with_step, Ends, StandsBehind}
 use Rattle.link_turn.specs.declared.end_cause.EndCause.{EndCause}
@@ -19,6 +16,8 @@ returns-in-Ok-clause-law g c = λ core terms talk time w.
 
 pub returns-in-Err-clause-law : goal.returns-in-Err-clause-law
 returns-in-Err-clause-law g c = λ core terms talk time w.
-    subst (λ (o : Result (Option Taken) Refusal). StandsBehind g.C.LinkCore.hears g.C.LinkCore.refuses g.C.LinkCore.said core terms c.end.result (with_step (takes time o) talk) c.end.new.self) (sym c.in-Err.is)
-    ([], c.end.ensures.law core terms (with_step (takes time (Err c.in-Err.refusal)) talk) (subst (λ (cause : EndCause). Ends g.C.LinkCore.hears g.C.LinkCore.refuses g.C.LinkCore.said core terms cause None (with_step (takes time (Err c.in-Err.refusal)) talk) c.args.self.now) (sym c.end_by.ensures)
-    (taken_refused g.C.LinkCore.hears g.C.LinkCore.refuses g.C.LinkCore.said core terms time c.in-Err.refusal talk c.args.self.now w)))
+    subst (λ (o : Result (Option Taken) Refusal). StandsBehind g.C.LinkCore.hears g.C.LinkCore.refuses g.C.LinkCore.said core terms c.end.result (with_step (takes time o) talk) c.end.new.self) (sym c.in-Err.is) (
+      [],
+      c.end.ensures.law core terms (with_step (takes time (Err c.in-Err.refusal)) talk) (subst (λ (cause : EndCause). Ends g.C.LinkCore.hears g.C.LinkCore.refuses g.C.LinkCore.said core terms cause None (with_step (takes time (Err c.in-Err.refusal)) talk) c.args.self.now) (sym c.end_by.ensures)
+          (taken_refused g.C.LinkCore.hears g.C.LinkCore.refuses g.C.LinkCore.said core terms time c.in-Err.refusal talk c.args.self.now w)),
+    )
