@@ -1,6 +1,6 @@
 -- A session is answered by the store.
-use Rattle.std.proofs.Common.{◌≡◌, ◌≢◌, ◌∙◌, refl, sym, ap, subst, ℕ, ◌+◌, ◌<◌, ◌≤◌, Bool, true, false, inl, inr, List, [], ◌∷◌, ◌++◌, length, map, arith}
-use Rattle.std.specs.Prelude.{Option, Some, None, IfSome, ⊤, Result, Ok, Err}
+use Rattle.std.proofs.Common.{◌≡◌, ◌≢◌, ◌∙◌, refl, sym, ap, subst, ℕ, ◌<◌, Bool, true, false, inl, List, [], ◌∷◌, ◌++◌, length}
+use Rattle.std.specs.Prelude.{Option, Some, None, Result, Ok, Err}
 use Rattle.std.proofs.lemmas.Bool.{false≢true}
 use Rattle.gate_entries.specs.declared.passing.Passing.{Passing}
 use Rattle.gate_entries.specs.declared.passing.Passing.TheVariants.{Up, Returned}
@@ -16,12 +16,12 @@ use Rattle.link_core.specs.declared.heard.Heard.TheVariants as heard_is
 use Rattle.link_core.specs.declared.out.Out.{Out}
 use Rattle.link_core.specs.declared.out.Out.TheVariants as out_is
 use Rattle.sms_record.specs.declared.sms.Sms.{Sms}
-use Rattle.link_turn.specs.Steps.{Step, hears, says, records, passes, takes, leaves, heards_in, times_in, times_of, times_of_entry}
-use Rattle.link_turn.specs.Back.{open_login, in_use, held, held_recorded, is_up, last_said, found_none, before_end, without_any, without_message, ended_by, given_back_by, is_nothing, IsFree, IsAmong}
-use Rattle.link_turn.specs.Due.{Due, nothing, come_up, give_back, send, say, over, due, due_by_entry, due_by_outcome, answer_to, answer_without_room, end_by, entry_for, passing_for}
+use Rattle.link_turn.specs.Steps.{Step, hears, says, records, passes, takes, leaves, heards_in, times_in}
+use Rattle.link_turn.specs.Back.{in_use, held, is_up, without_any, is_nothing, IsFree, IsAmong}
+use Rattle.link_turn.specs.Due.{Due, nothing, come_up, give_back, say, over, due, due_by_entry, due_by_outcome, answer_to, answer_without_room, end_by, passing_for}
 use Rattle.link_turn.specs.Session.{Talk, messages}
-use Rattle.link_turn.specs.SessionSteps.{AreApart, IsLast, with_step, message_ended, Agrees, Keeps, Frames, Holds, IsReady, Owes, Ends, IsToRecord, IsToSay, Speaks, Records, WasTaken, HasPassedIn, passed_step}
-use Rattle.link_turn.specs.Talk.{AreSteps, AreReadings, MayCome, IsCause}
+use Rattle.link_turn.specs.SessionSteps.{AreApart, IsLast, with_step, message_ended, Agrees, Keeps, Frames, Holds, IsReady, Owes, Ends, IsToRecord, Speaks, Records, WasTaken, HasPassedIn, passed_step}
+use Rattle.link_turn.specs.Talk.{IsCause}
 use Rattle.link_turn.specs.declared.end_cause.EndCause.{EndCause}
 use Rattle.link_turn.specs.declared.end_cause.EndCause.TheVariants as end_is
 use Rattle.link_turn.specs.declared.session.Phase.{Phase}
@@ -31,11 +31,10 @@ use Rattle.link_turn.specs.declared.session.Recording.{Recording}
 use Rattle.link_turn.specs.declared.session.Recording.TheVariants as recording_is
 use Rattle.link_turn.specs.declared.session.Saying.TheVariants as saying_is
 use Rattle.link_turn.specs.declared.session.Session.{Session}
-use Rattle.link_turn.specs.declared.submitted.Asked.{Asked}
 use Rattle.link_turn.specs.declared.submitted.Submitted.{Submitted}
 use Rattle.link_turn.specs.declared.terms.Terms.{Terms}
 use Rattle.link_turn.proofs.Uses.{among_last, without_push}
-use Rattle.link_turn.proofs.Keeping.{AreAlike, timed_same, agrees_same, keeps_same, holds_same}
+use Rattle.link_turn.proofs.Keeping.{AreAlike, timed_same, agrees_same}
 
 -- ---- what is due behind an entry
 

@@ -1,21 +1,17 @@
 -- Talks of a link tried by hand: what may come where, and what may not.
-use Rattle.std.proofs.Common.{◌≡◌, ◌≢◌, refl, ℕ, ◌+◌, ◌<◌, ◌≤◌, true, false, List, [], ◌∷◌, arith}
-use Rattle.std.specs.Prelude.{Some, None, Ok, Err, ⊤}
-use Rattle.gate_entries.specs.declared.cause.Cause.TheVariants.{Centre}
+use Rattle.std.proofs.Common.{◌≡◌, refl, ℕ, true, List, [], ◌∷◌, arith}
+use Rattle.std.specs.Prelude.{Some, Ok}
 use Rattle.gate_entries.specs.declared.passing.Passing.TheVariants.{Up, Returned, Down}
 use Rattle.gate_entries.specs.declared.recorded.Recorded.TheVariants as entry
-use Rattle.gate_model.specs.declared.reply.Refusal.TheVariants.{Full, Disk}
 use Rattle.gate_model.specs.declared.reply.Reply.TheVariants.{Noted}
 use Rattle.gate_store.specs.declared.taken.Taken.TheVariants as taken
 use Rattle.link_core.specs.declared.heard.Heard.TheVariants as heard
 use Rattle.link_core.specs.declared.out.Out.TheVariants as out
-use Rattle.link_core.specs.declared.verdict.Verdict.TheVariants.{Good, Temporary, Permanent}
+use Rattle.link_core.specs.declared.verdict.Verdict.TheVariants.{Good, Temporary}
 use Rattle.sms_record.specs.declared.sms.Sms.{Sms}
 use Rattle.link_turn.specs.Steps.{Step, hears, says, records, passes, takes, leaves}
-use Rattle.link_turn.specs.Back.{in_use, held}
-use Rattle.link_turn.specs.Due.{due, over, say, nothing, give_back}
+use Rattle.link_turn.specs.Due.{due, say, nothing, give_back}
 use Rattle.link_turn.specs.Talk.{AreSteps, MayCome}
-use Rattle.link_turn.specs.declared.end_cause.EndCause.TheVariants as end_is
 use Rattle.link_turn.specs.declared.terms.Terms.{Terms}
 
 -- a link 0 with a window of one, that asks after 30 seconds of silence

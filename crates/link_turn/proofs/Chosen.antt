@@ -1,9 +1,9 @@
 -- The link that is chosen for a message carries it.
-use Rattle.std.proofs.Common.{◌≡◌, ◌≢◌, ◌∙◌, refl, sym, ap, subst, ℕ, zero, suc, ◌+◌, ◌-◌, ◌≤◌, Bool, true, false, cond, not, inl, inr, ◌⊎◌, List, [], ◌∷◌, length, arith}
-use Rattle.std.specs.Prelude.{◌==◌, ◌&&◌, Option, Some, None, find, slice_get}
-use Rattle.std.proofs.lemmas.Bool.{cases_Bool, eqb-true, and_parts, false≢true}
+use Rattle.std.proofs.Common.{◌≡◌, ◌≢◌, ◌∙◌, refl, sym, ap, subst, ℕ, suc, ◌+◌, Bool, true, cond, not, inl, inr, List, [], ◌∷◌, length, arith}
+use Rattle.std.specs.Prelude.{◌==◌, Some, None, find, slice_get}
+use Rattle.std.proofs.lemmas.Bool.{cases_Bool, and_parts, false≢true}
 use Rattle.route_rules.specs.Carriage.{carries}
-use Rattle.route_rules.specs.Routes.{fit, is_at_least, is_ready, numbers_from, pool, has_fewest, first_of_fewest, chosen, takes_id, takes_receiver, prefers}
+use Rattle.route_rules.specs.Routes.{fit, is_at_least, is_ready, numbers_from, pool, has_fewest, chosen, takes_id, takes_receiver, prefers}
 use Rattle.route_rules.specs.declared.fit.Fit.{Fit}
 use Rattle.route_rules.specs.declared.fit.Fit.TheVariants.{No, Plain, Preferred}
 use Rattle.route_rules.specs.declared.link_rule.LinkRule.{LinkRule}

@@ -1,6 +1,6 @@
 -- A session goes on by what it is given.
-use Rattle.std.proofs.Common.{◌≡◌, ◌≢◌, ◌∙◌, refl, sym, ap, subst, ℕ, ◌+◌, ◌<◌, ◌≤◌, Bool, true, false, inl, inr, ◌⊎◌, List, [], ◌∷◌, ◌++◌, length, map, take, append_assoc, arith}
-use Rattle.std.specs.Prelude.{Option, Some, None, IfSome, ⊤, Result, Ok, Err}
+use Rattle.std.proofs.Common.{◌≡◌, ◌∙◌, refl, sym, ap, subst, ℕ, ◌≤◌, inl, inr, ◌⊎◌, List, [], ◌∷◌, ◌++◌}
+use Rattle.std.specs.Prelude.{Option, Some, None, Result}
 use Rattle.std.proofs.lemmas.List.{append-nil}
 use Rattle.gate_entries.specs.declared.passing.Passing.{Passing}
 use Rattle.gate_entries.specs.declared.passing.Passing.TheVariants.{Up, Returned}
@@ -9,19 +9,16 @@ use Rattle.gate_model.specs.declared.reply.Refusal.{Refusal}
 use Rattle.gate_model.specs.declared.reply.Reply.{Reply}
 use Rattle.gate_store.specs.declared.taken.Taken.{Taken}
 use Rattle.link_core.specs.Grammar.{IsFrame, HasFirst}
-use Rattle.link_core.specs.Streams.{AreFrames}
 use Rattle.link_core.specs.declared.heard.Heard.{Heard}
 use Rattle.link_core.specs.declared.out.Out.{Out}
 use Rattle.link_core.specs.declared.out.Out.TheVariants as out_is
-use Rattle.link_turn.specs.Steps.{Step, Deed, performed, passed, took, hears, says, records, passes, takes, leaves, heards_in, times_in, times_of_out, times_of_entry, said_in, deeds_in}
+use Rattle.link_turn.specs.Steps.{Step, passed, says, records, passes, takes, leaves, heards_in, times_in, times_of_out, times_of_entry, said_in, deeds_in}
 use Rattle.std.proofs.lemmas.Bool.{false≢true}
-use Rattle.link_turn.specs.Back.{held, is_up}
 use Rattle.link_turn.specs.Due.{Due, come_up, give_back, due, out_for}
-use Rattle.link_turn.specs.Session.{Talk, no_talk, messages, IsNew, GoesOn, spoken_in, heard_by, spoken_by, deeds_by, MayBeCut, IsCutShort}
-use Rattle.link_turn.specs.SessionSteps.{AreApart, IsAnswer, IsLast, with_step, handled, with_handled, message_said, message_ended, passed_step, Agrees, Keeps, Frames, Holds, IsReady, Owes, Ends, Begins, Heeds, IsToSay, Speaks, WasSaid, Records, WasRecorded, HasPassedIn, WasTaken, IsLeaving, IsOver, Stands, StandsIn, StandsBehind, StandsOn}
+use Rattle.link_turn.specs.Session.{Talk, no_talk, messages, GoesOn, spoken_in, heard_by, spoken_by, deeds_by, IsCutShort}
+use Rattle.link_turn.specs.SessionSteps.{AreApart, IsAnswer, with_step, handled, with_handled, message_said, message_ended, passed_step, Agrees, Keeps, Frames, Holds, IsReady, Owes, Ends, Begins, Heeds, IsToSay, Speaks, WasSaid, WasRecorded, HasPassedIn, WasTaken, IsOver, Stands, StandsIn, StandsBehind, StandsOn}
 use Rattle.link_turn.specs.Talk.{AreReadings, IsCause, BreaksOff, IsIdle, LinkTalk}
 use Rattle.link_turn.specs.declared.end_cause.EndCause.{EndCause}
-use Rattle.link_turn.specs.declared.end_cause.EndCause.TheVariants as end_is
 use Rattle.link_turn.specs.declared.given.Given.{Given}
 use Rattle.link_turn.specs.declared.given.Given.TheVariants as given_is
 use Rattle.link_turn.specs.declared.session.Phase.{Phase}
@@ -35,7 +32,6 @@ use Rattle.link_turn.specs.declared.terms.Terms.{Terms}
 use Rattle.link_turn.specs.declared.wish.Wish.{Wish}
 use Rattle.link_turn.specs.declared.wish.Wish.TheVariants as wish_is
 use Rattle.link_turn.proofs.Readings.{readings_more, frames_more}
-use Rattle.link_turn.proofs.Keeping.{AreAlike, holds_same}
 use Rattle.link_turn.proofs.Speaking.{timed_now}
 
 -- a talk with one reading more

@@ -1,6 +1,6 @@
 -- A session deals with a frame.
-use Rattle.std.proofs.Common.{◌≡◌, ◌≢◌, ◌∙◌, refl, sym, ap, subst, ℕ, ◌+◌, ◌<◌, ◌≤◌, Bool, true, false, cond, inl, inr, List, [], ◌∷◌, ◌++◌, length, map, arith}
-use Rattle.std.specs.Prelude.{◌==◌, Option, Some, None, IfSome, ⊤, option_map, find}
+use Rattle.std.proofs.Common.{◌≡◌, ◌∙◌, refl, sym, ap, subst, ℕ, Bool, true, false, cond, inl, List, [], ◌∷◌, ◌++◌}
+use Rattle.std.specs.Prelude.{◌==◌, Option, Some, None}
 use Rattle.std.specs.Option.{option_map_or}
 use Rattle.gate_entries.specs.declared.passing.Passing.TheVariants.{Up, Returned}
 use Rattle.gate_entries.specs.declared.recorded.Recorded.{Recorded}
@@ -10,18 +10,16 @@ use Rattle.link_core.specs.declared.heard.Heard.TheVariants as heard_is
 use Rattle.link_core.specs.declared.out.Out.{Out}
 use Rattle.link_core.specs.declared.out.Out.TheVariants as out_is
 use Rattle.link_turn.specs.Talk.{AreReadings}
-use Rattle.link_core.specs.declared.verdict.Verdict.{Verdict}
-use Rattle.link_turn.specs.Steps.{Step, hears, heards_in, times_in, times_of_entry}
-use Rattle.link_turn.specs.Back.{login_heard, uses_heard, without_login, without_tag, message_under, open_login, in_use, held, ended_by, without_message, IsAmong}
-use Rattle.link_turn.specs.Due.{Due, nothing, come_up, acknowledge, reject, give_back, report, arrive, say, over, due, due_by, due_by_login, due_by_code, due_by_verdict, entry_for}
+use Rattle.link_turn.specs.Steps.{hears, heards_in, times_in, times_of_entry}
+use Rattle.link_turn.specs.Back.{login_heard, uses_heard, without_login, without_tag, message_under, open_login, in_use, ended_by, without_message, IsAmong}
+use Rattle.link_turn.specs.Due.{Due, nothing, come_up, give_back, say, over, due, due_by, due_by_login, due_by_code, entry_for}
 use Rattle.link_turn.specs.Session.{Talk, messages}
-use Rattle.link_turn.specs.SessionSteps.{AreApart, IsLast, with_step, message_ended, message_said, IsAnswer, Agrees, Keeps, Frames, Holds, IsReady, Owes, Faces, Ends, IsToRecord, IsToSay, Speaks, Records, Stands, StandsIn, StandsThen}
+use Rattle.link_turn.specs.SessionSteps.{AreApart, with_step, message_ended, IsAnswer, Frames, IsReady, Owes, Faces, Ends, IsToRecord, Speaks, Records, Stands, StandsIn, StandsThen}
 use Rattle.link_turn.specs.declared.end_cause.EndCause.TheVariants as end_is
 use Rattle.link_turn.specs.declared.session.Phase.{Phase}
 use Rattle.link_turn.specs.declared.session.Phase.TheVariants.{ComingUp, GivingBack}
 use Rattle.link_turn.specs.declared.session.Phase.TheVariants as phase_is
 use Rattle.link_turn.specs.declared.session.Recording.{Recording}
-use Rattle.link_turn.specs.declared.session.Recording.TheVariants as recording_is
 use Rattle.link_turn.specs.declared.session.Saying.TheVariants as saying_is
 use Rattle.link_turn.specs.declared.session.Session.{Session}
 use Rattle.link_turn.specs.declared.submitted.Asked.{Asked}

@@ -1,21 +1,17 @@
 -- What a session keeps, where something of it changes, and by one step more.
-use Rattle.std.proofs.Common.{◌≡◌, ◌≢◌, ◌∙◌, refl, sym, ap, subst, ℕ, ◌+◌, ◌<◌, ◌≤◌, Bool, true, false, inl, inr, List, [], ◌∷◌, ◌++◌, length, map, drop, append_assoc, arith}
-use Rattle.std.specs.Prelude.{Option, Some, None, IfSome, ⊤}
+use Rattle.std.proofs.Common.{◌≡◌, ◌∙◌, refl, sym, ap, subst, ℕ, true, List, [], ◌∷◌, ◌++◌, drop}
+use Rattle.std.specs.Prelude.{Option, None}
 use Rattle.std.proofs.lemmas.List.{append-nil}
-use Rattle.gate_entries.specs.declared.passing.Passing.{Passing}
 use Rattle.link_core.specs.Streams.{AreFrames}
 use Rattle.link_core.specs.declared.heard.Heard.{Heard}
 use Rattle.link_core.specs.declared.out.Out.{Out}
-use Rattle.link_turn.specs.Steps.{Step, hears, heards_in, times_in, times_of}
-use Rattle.link_turn.specs.Back.{login_heard, uses_heard, open_login, in_use, held, is_up, last_said, found_none, before_end, without_any}
-use Rattle.link_turn.specs.Due.{Due, nothing, due, due_by}
+use Rattle.link_turn.specs.Steps.{hears, heards_in, times_in}
+use Rattle.link_turn.specs.Back.{login_heard, uses_heard}
+use Rattle.link_turn.specs.Due.{Due, nothing, due_by}
 use Rattle.link_turn.specs.Session.{Talk, messages}
-use Rattle.link_turn.specs.SessionSteps.{AreApart, IsLast, with_step, Agrees, Keeps, Frames, Holds, IsReady, Owes, Faces, StandsThen}
-use Rattle.link_turn.specs.Talk.{AreSteps, AreReadings, MayCome}
-use Rattle.link_turn.specs.declared.session.Phase.{Phase}
+use Rattle.link_turn.specs.SessionSteps.{AreApart, IsLast, with_step, Agrees, Keeps, Holds, IsReady, Owes, Faces, StandsThen}
+use Rattle.link_turn.specs.Talk.{AreReadings}
 use Rattle.link_turn.specs.declared.session.Session.{Session}
-use Rattle.link_turn.specs.declared.submitted.Asked.{Asked}
-use Rattle.link_turn.specs.declared.submitted.Submitted.{Submitted}
 use Rattle.link_turn.specs.declared.terms.Terms.{Terms}
 
 -- Two sessions that differ in nothing that the steps tell, but for what waits for answers.

@@ -1,15 +1,13 @@
 -- A session leaves: what it holds is given back, and then it goes down.
-use Rattle.std.proofs.Common.{◌≡◌, ◌≢◌, ◌∙◌, refl, sym, ap, subst, ℕ, ◌+◌, ◌<◌, ◌≤◌, Bool, true, false, inl, inr, List, [], ◌∷◌, ◌++◌, length, map, arith}
-use Rattle.std.specs.Prelude.{Option, Some, None, IfSome, ⊤}
-use Rattle.std.proofs.lemmas.List.{append-nil}
-use Rattle.gate_entries.specs.declared.passing.Passing.{Passing}
+use Rattle.std.proofs.Common.{◌≡◌, ◌∙◌, sym, ap, subst, ℕ, true, false, List, [], ◌∷◌}
+use Rattle.std.specs.Prelude.{Option, Some, None}
 use Rattle.gate_entries.specs.declared.passing.Passing.TheVariants.{Down, Returned}
 use Rattle.link_core.specs.declared.heard.Heard.{Heard}
 use Rattle.link_core.specs.declared.out.Out.{Out}
 use Rattle.link_turn.specs.Steps.{Step, leaves, times_in}
-use Rattle.link_turn.specs.Back.{held, is_up, without_any, without_message, IsAmong, before_end}
+use Rattle.link_turn.specs.Back.{held, without_message, IsAmong}
 use Rattle.link_turn.specs.Session.{Talk, messages}
-use Rattle.link_turn.specs.SessionSteps.{AreApart, with_step, Agrees, Holds, IsLeaving, IsOver, Ends, Stands, StandsIn}
+use Rattle.link_turn.specs.SessionSteps.{AreApart, with_step, IsLeaving, IsOver, Ends, Stands, StandsIn}
 use Rattle.link_turn.specs.Talk.{IsCause}
 use Rattle.link_turn.specs.declared.end_cause.EndCause.{EndCause}
 use Rattle.link_turn.specs.declared.session.Phase.{Phase}

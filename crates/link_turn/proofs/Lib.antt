@@ -11,3 +11,4 @@ pub mod Going
 pub mod Checks
 pub mod Stored
 pub mod Chosen
+pub mod Agreement

@@ -1,6 +1,6 @@
 -- A session looks at what it keeps, and at the clock.
-use Rattle.std.proofs.Common.{◌≡◌, ◌≢◌, ◌∙◌, refl, sym, ap, subst, ℕ, ◌+◌, ◌<◌, ◌≤◌, Bool, true, false, inl, inr, ◌⊎◌, List, [], ◌∷◌, ◌++◌, length, map, take, drop, append_assoc, arith, length-append}
-use Rattle.std.specs.Prelude.{All, Option, Some, None, IfSome, ⊤}
+use Rattle.std.proofs.Common.{◌≡◌, ◌∙◌, refl, sym, ap, subst, ℕ, ◌+◌, ◌<◌, ◌≤◌, Bool, true, false, inl, inr, ◌⊎◌, List, [], ◌∷◌, ◌++◌, length, take, drop, append_assoc, arith, length-append}
+use Rattle.std.specs.Prelude.{All, Option, Some, None, IfSome}
 use Rattle.std.specs.List.{Contains}
 use Rattle.std.proofs.lemmas.List.{append-nil, append_cancel_left}
 use Rattle.std.proofs.Common.{take-append-drop}
@@ -9,14 +9,13 @@ use Rattle.link_core.specs.Grammar.{IsFrame, HasFirst, NoneComes, IsGrammar}
 use Rattle.link_core.specs.Streams.{AreFrames}
 use Rattle.link_core.specs.declared.heard.Heard.{Heard}
 use Rattle.link_core.specs.declared.out.Out.{Out}
-use Rattle.link_turn.specs.Steps.{Step, heards_in, hears}
-use Rattle.link_turn.specs.Back.{open_login, in_use, is_up, last_said, found_none}
-use Rattle.link_turn.specs.Due.{due, nothing}
+use Rattle.link_turn.specs.Steps.{heards_in}
+use Rattle.link_turn.specs.Back.{is_up, last_said}
 use Rattle.std.specs.Prelude.{find, option_map, ◌-◌, ◌&&◌, not, nat_lt, nat_le}
 use Rattle.std.proofs.lemmas.Bool.{cases_Bool, ltb-true, ltb-false, leb-false, false≢true}
 use Rattle.std.proofs.lemmas.List.Elements.{All-nil, All-cons, Contains-append_left, Contains-append_right, Contains-push}
 use Rattle.link_turn.specs.Session.{Talk, Rests, IsLate, IsTimely, Waits, NoneIsLate, is_late}
-use Rattle.link_turn.specs.SessionSteps.{Agrees, Keeps, Frames, Holds, IsReady, Ends, Heeds, Faces, WasSilent, Stands, StandsIn, StandsBehind, with_handled, with_step}
+use Rattle.link_turn.specs.SessionSteps.{Keeps, Frames, IsReady, Ends, Heeds, Faces, Stands, StandsIn}
 use Rattle.link_turn.specs.Talk.{IsIdle, IsUnanswered, IsCause}
 use Rattle.link_turn.specs.declared.end_cause.EndCause.{EndCause}
 use Rattle.link_turn.specs.declared.end_cause.EndCause.TheVariants as end_is

@@ -1,5 +1,5 @@
 -- Times that are readings, and frames that are cut off what was heard.
-use Rattle.std.proofs.Common.{◌≡◌, ◌∙◌, refl, sym, ap, subst, ℕ, inl, inr, List, [], ◌∷◌, ◌++◌, append_assoc}
+use Rattle.std.proofs.Common.{◌∙◌, refl, ap, ℕ, inl, inr, List, [], ◌∷◌, ◌++◌, append_assoc}
 use Rattle.link_core.specs.Streams.{AreFrames}
 use Rattle.link_core.specs.declared.heard.Heard.{Heard}
 use Rattle.link_turn.specs.Talk.{AreReadings}

@@ -1,19 +1,18 @@
 -- A session says something.
-use Rattle.std.proofs.Common.{◌≡◌, ◌≢◌, ◌∙◌, refl, sym, ap, subst, ℕ, ◌+◌, ◌<◌, ◌≤◌, Bool, true, false, inl, inr, List, [], ◌∷◌, ◌++◌, length, map, append_assoc, arith}
-use Rattle.std.specs.Prelude.{Option, Some, None, IfSome, ⊤}
-use Rattle.std.proofs.lemmas.List.{append-nil, length-append, map-append}
+use Rattle.std.proofs.Common.{◌≡◌, ◌≢◌, ◌∙◌, refl, sym, ap, subst, ℕ, ◌+◌, ◌≤◌, true, inl, List, [], ◌∷◌, ◌++◌, append_assoc, arith}
+use Rattle.std.specs.Prelude.{Option, Some, None}
+use Rattle.std.proofs.lemmas.List.{map-append}
 use Rattle.link_core.specs.Streams.{AreFrames}
 use Rattle.link_core.specs.declared.heard.Heard.{Heard}
 use Rattle.link_core.specs.declared.out.Out.{Out}
 use Rattle.link_core.specs.declared.out.Out.TheVariants as out_is
 use Rattle.sms_record.specs.declared.sms.Sms.{Sms}
-use Rattle.link_turn.specs.Steps.{Step, says, heards_in, times_in, times_of, times_of_out}
-use Rattle.link_turn.specs.Back.{login_said, uses_said, open_login, in_use, held, is_up, last_said, found_none, before_end, without_any, without_message, IsFree, IsAmong}
-use Rattle.link_turn.specs.Due.{Due, nothing, log_in, say, send, over, due, due_by_said, out_for}
+use Rattle.link_turn.specs.Steps.{Step, says, heards_in, times_in, times_of_out}
+use Rattle.link_turn.specs.Back.{login_said, uses_said, in_use, held, last_said, IsFree, IsAmong}
+use Rattle.link_turn.specs.Due.{Due, nothing, due, due_by_said, out_for}
 use Rattle.link_turn.specs.Session.{Talk, messages}
-use Rattle.link_turn.specs.SessionSteps.{AreApart, IsLast, with_step, message_said, IsAnswer, Agrees, Keeps, Frames, Holds, IsReady, Ends, Begins, IsToSay, Speaks, WasSaid, WasSilent, WasSubmitted, Stands, StandsIn}
-use Rattle.link_turn.specs.Talk.{AreSteps, AreReadings, MayCome, MaySay, IsCause}
-use Rattle.link_turn.specs.declared.end_cause.EndCause.{EndCause}
+use Rattle.link_turn.specs.SessionSteps.{AreApart, IsLast, with_step, message_said, IsAnswer, Agrees, Frames, Holds, IsReady, Ends, Begins, IsToSay, Speaks, WasSaid, WasSilent, WasSubmitted, Stands, StandsIn}
+use Rattle.link_turn.specs.Talk.{AreReadings, MayCome, MaySay}
 use Rattle.link_turn.specs.declared.end_cause.EndCause.TheVariants as end_is
 use Rattle.link_turn.specs.declared.session.Phase.{Phase}
 use Rattle.link_turn.specs.declared.session.Phase.TheVariants as phase_is

@@ -1,5 +1,5 @@
 -- What is due behind the steps of a session: what the newest of them asks for.
-use Rattle.std.specs.Prelude.{ℕ, ◌==◌, Bool, true, false, List, [], ◌∷◌, Option, Some, None, Result, Ok, Err, if◌then◌else◌}
+use Rattle.std.specs.Prelude.{ℕ, ◌==◌, true, false, List, [], ◌∷◌, Option, Some, None, Result, Ok, Err, if◌then◌else◌}
 use Rattle.std.specs.Option.{option_map_or}
 use Rattle.gate_entries.specs.declared.cause.Cause.TheVariants.{Centre}
 use Rattle.gate_entries.specs.declared.passing.Passing.{Passing}

@@ -4,3 +4,4 @@ pub mod Due
 pub mod Talk
 pub mod Session
 pub mod SessionSteps
+pub mod Turn

@@ -1,12 +1,9 @@
 -- A session by itself: what it keeps, what may be given to it, and how a talk goes on by what it was given.
-use Rattle.std.specs.Prelude.{◌≡◌, ◌⊎◌, ⊤, ℕ, ◌+◌, ◌-◌, nat_lt, ◌<◌, ◌≤◌, ◌^◌, Bool, true, false, List, [], ◌∷◌, ◌++◌, length, take, map, All, IfSome, MatchOption, Option, Some, None, Result, Ok, Err}
+use Rattle.std.specs.Prelude.{◌≡◌, ◌⊎◌, ⊤, ℕ, ◌+◌, ◌-◌, nat_lt, ◌<◌, ◌≤◌, ◌^◌, Bool, true, false, List, [], ◌∷◌, ◌++◌, length, take, map, All, IfSome, Option, Some, None, Result, Ok, Err}
 use Rattle.std.specs.List.{Contains}
 use Rattle.exact_octets.specs.Fronts.{IsProperFront}
 use Rattle.gate_entries.specs.Entry.{IsEntry}
-use Rattle.gate_entries.specs.declared.passing.Passing.{Passing}
-use Rattle.gate_entries.specs.declared.recorded.Recorded.{Recorded}
 use Rattle.gate_model.specs.declared.reply.Refusal.{Refusal}
-use Rattle.gate_model.specs.declared.reply.Reply.{Reply}
 use Rattle.gate_store.specs.declared.taken.Taken.{Taken}
 use Rattle.gate_store.specs.declared.taken.Taken.TheVariants as taken
 use Rattle.link_core.specs.Grammar.{IsFrame}
@@ -16,7 +13,6 @@ use Rattle.link_core.specs.declared.heard.Heard.{Heard}
 use Rattle.link_core.specs.declared.out.Out.{Out}
 use Rattle.route_rules.specs.declared.link_kind.LinkKind.{LinkKind}
 use Rattle.sms_record.specs.declared.limits.TheConstants.{MOST_NAME}
-use Rattle.sms_record.specs.declared.sms.Sms.{Sms}
 use Rattle.link_turn.specs.Steps.{Step, Deed, performed, passed, took, said_in, deeds_in}
 use Rattle.link_turn.specs.Back.{open_login, in_use, is_up, last_said, found_none, IsAmong}
 use Rattle.link_turn.specs.declared.end_cause.EndCause.{EndCause}

@@ -1,5 +1,5 @@
 -- Where a session stands by the steps that led to it, and by what it wished last. The clauses of a session's steps cite these.
-use Rattle.std.specs.Prelude.{◌≡◌, ◌≢◌, ⊤, ℕ, ◌+◌, ◌<◌, ◌≤◌, Bool, true, false, List, [], ◌∷◌, ◌++◌, length, map, Option, Some, None, IfSome, MatchOption}
+use Rattle.std.specs.Prelude.{◌≡◌, ◌≢◌, ⊤, ℕ, ◌+◌, ◌<◌, ◌≤◌, true, false, List, [], ◌∷◌, ◌++◌, length, Option, Some, None, IfSome}
 use Rattle.gate_entries.specs.declared.passing.Passing.{Passing}
 use Rattle.gate_entries.specs.declared.passing.Passing.TheVariants.{Up, Returned}
 use Rattle.gate_entries.specs.declared.recorded.Recorded.{Recorded}
@@ -9,14 +9,13 @@ use Rattle.link_core.specs.declared.heard.Heard.{Heard}
 use Rattle.link_core.specs.declared.out.Out.{Out}
 use Rattle.link_core.specs.declared.out.Out.TheVariants as out_is
 use Rattle.sms_record.specs.declared.sms.Sms.{Sms}
-use Rattle.link_turn.specs.Steps.{Step, hears, says, records, passes, takes, leaves, heards_in, times_in, times_of_entry, times_of_out, deeds_in}
+use Rattle.link_turn.specs.Steps.{Step, hears, passes, leaves, heards_in, times_in, times_of_entry, times_of_out, deeds_in}
 use Rattle.link_turn.specs.Back.{open_login, in_use, held, is_up, last_said, found_none, before_end, without_any, ended_by, IsFree, IsAmong}
-use Rattle.link_turn.specs.Due.{Due, nothing, come_up, acknowledge, reject, give_back, send, say, over, due, answer_to, entry_for}
+use Rattle.link_turn.specs.Due.{Due, nothing, come_up, give_back, send, say, due, answer_to, entry_for}
 use Rattle.link_turn.specs.Session.{Talk, no_talk, messages, Rests, IsNew, GoesOn, spoken_in}
 use Rattle.link_turn.specs.declared.given.Given.{Given}
 use Rattle.link_turn.specs.Talk.{AreSteps, AreReadings, IsCause, LinkTalk}
 use Rattle.link_turn.specs.declared.end_cause.EndCause.{EndCause}
-use Rattle.link_turn.specs.declared.end_cause.EndCause.TheVariants as end_is
 use Rattle.link_turn.specs.declared.session.Phase.{Phase}
 use Rattle.link_turn.specs.declared.session.Phase.TheVariants.{Fresh, Listening, ComingUp, GivingBack, Taking, Leaving, Done}
 use Rattle.link_turn.specs.declared.session.Phase.TheVariants as phase_is
@@ -25,7 +24,6 @@ use Rattle.link_turn.specs.declared.session.Recording.TheVariants as recording_i
 use Rattle.link_turn.specs.declared.session.Saying.{Saying}
 use Rattle.link_turn.specs.declared.session.Saying.TheVariants as saying_is
 use Rattle.link_turn.specs.declared.session.Session.{Session}
-use Rattle.link_turn.specs.declared.submitted.Asked.{Asked}
 use Rattle.link_turn.specs.declared.submitted.Submitted.{Submitted}
 use Rattle.link_turn.specs.declared.terms.Terms.{Terms}
 use Rattle.link_turn.specs.declared.wish.Wish.{Wish}

@@ -1,23 +1,17 @@
 -- What the session of a link comes to: its steps, each of which may come where it stands, and its end.
-use Rattle.std.specs.Prelude.{◌≡◌, ◌≢◌, ◌⊎◌, ⊤, ℕ, ◌+◌, ◌<◌, ◌≤◌, Bool, true, false, List, [], ◌∷◌, ◌++◌, length, take, Some, None}
+use Rattle.std.specs.Prelude.{◌≡◌, ◌≢◌, ◌⊎◌, ⊤, ℕ, ◌+◌, ◌<◌, ◌≤◌, true, false, List, [], ◌∷◌, ◌++◌, length, take, Some}
 use Rattle.std.specs.List.{Contains}
-use Rattle.exact_octets.specs.Fronts.{IsProperFront}
 use Rattle.gate_entries.specs.declared.passing.Passing.{Passing}
 use Rattle.gate_entries.specs.declared.passing.Passing.TheVariants as passing
-use Rattle.gate_model.specs.declared.reply.Refusal.{Refusal}
 use Rattle.link_core.specs.Grammar.{IsFrame, HasFirst, NoneComes}
 use Rattle.link_core.specs.Streams.{AreFrames}
 use Rattle.link_core.specs.declared.heard.Heard.{Heard}
 use Rattle.link_core.specs.declared.out.Out.{Out}
-use Rattle.sms_record.specs.declared.kind.Kind.{Kind}
-use Rattle.sms_record.specs.declared.sms.Sms.{Sms}
 use Rattle.link_turn.specs.Steps.{Step, hears, says, records, passes, takes, leaves, Deed, heards_in, said_in, times_in, deeds_in}
 use Rattle.link_turn.specs.Back.{open_login, in_use, held, is_up, last_said, before_end, IsFree, IsAmong}
 use Rattle.link_turn.specs.Due.{Due, nothing, log_in, come_up, acknowledge, reject, give_back, report, arrive, send, say, over, left, due, entry_for, passing_for, out_for}
 use Rattle.link_turn.specs.declared.end_cause.EndCause.{EndCause}
 use Rattle.link_turn.specs.declared.end_cause.EndCause.TheVariants as end_is
-use Rattle.link_turn.specs.declared.submitted.Asked.{Asked}
-use Rattle.link_turn.specs.declared.submitted.Submitted.{Submitted}
 use Rattle.link_turn.specs.declared.terms.Terms.{Terms}
 
 -- ---- which steps may come

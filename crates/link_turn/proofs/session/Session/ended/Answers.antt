@@ -1,8 +1,7 @@
-use Rattle.std.proofs.Common.{[], subst, sym, ℕ}
+use Rattle.std.proofs.Common.{[], subst, sym}
 use Rattle.std.specs.Prelude.{Ok, Err, Some}
 use Rattle.std.specs.Prelude.{Result}
 use Rattle.gate_model.specs.declared.reply.Refusal.{Refusal}
-use Rattle.gate_model.specs.declared.reply.Refusal.TheVariants as refusal_is
 use Rattle.gate_model.specs.declared.reply.Reply.{Reply}
 use Rattle.link_turn.specs.Steps.{records}
 use Rattle.link_turn.specs.SessionSteps.{with_step, Ends, StandsBehind}

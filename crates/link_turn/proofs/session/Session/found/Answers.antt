@@ -1,7 +1,6 @@
-use Rattle.std.proofs.Common.{[], subst, sym, refl}
-use Rattle.std.specs.Prelude.{Option, Ok, Some, None}
+use Rattle.std.proofs.Common.{subst, sym, refl}
+use Rattle.std.specs.Prelude.{Option, Ok, None}
 use Rattle.gate_store.specs.declared.taken.Taken.{Taken}
-use Rattle.gate_store.specs.declared.taken.Taken.TheVariants as taken
 use Rattle.link_turn.specs.Steps.{takes}
 use Rattle.link_turn.specs.SessionSteps.{with_step, StandsBehind}
 use Rattle.link_turn.proofs.Answering.{taken_none}

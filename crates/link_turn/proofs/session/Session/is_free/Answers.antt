@@ -1,4 +1,3 @@
-use Rattle.std.proofs.Common.{sym}
 use Rattle.link_turn.proofs.Pigeons.{free_test}
 use Rattle.link_turn.proofs.session.Session.is_free.Goals as goal
 

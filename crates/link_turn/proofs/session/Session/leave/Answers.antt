@@ -1,5 +1,5 @@
 use Rattle.std.proofs.Common.{ℕ, subst, ap, refl, ◌∙◌}
-use Rattle.std.specs.Prelude.{Option, None}
+use Rattle.std.specs.Prelude.{Option}
 use Rattle.link_turn.specs.SessionSteps.{IsLeaving}
 use Rattle.link_turn.specs.declared.session.Phase.TheVariants.{Leaving}
 use Rattle.link_turn.proofs.Keeping.{uses_taken}

@@ -1,6 +1,5 @@
 use Rattle.std.proofs.Common.{refl}
 use Rattle.std.proofs.lemmas.Bool.{eq-eqb}
-use Rattle.link_core.specs.declared.heard.Heard.{Heard}
 use Rattle.link_core.specs.declared.heard.Heard.TheVariants as heard_is
 use Rattle.link_turn.specs.Steps.{hears}
 use Rattle.link_turn.specs.SessionSteps.{with_step}

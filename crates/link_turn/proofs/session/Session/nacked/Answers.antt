@@ -1,8 +1,7 @@
 use Rattle.std.proofs.Common.{sym, refl, ◌∙◌}
-use Rattle.link_core.specs.declared.heard.Heard.{Heard}
 use Rattle.link_core.specs.declared.heard.Heard.TheVariants as heard_is
 use Rattle.link_turn.specs.Steps.{hears}
-use Rattle.link_turn.specs.Due.{give_back, due_by_verdict}
+use Rattle.link_turn.specs.Due.{give_back}
 use Rattle.link_turn.specs.SessionSteps.{with_step}
 use Rattle.link_turn.proofs.Keeping.{uses_taken}
 use Rattle.link_turn.proofs.Handling.{tag_answered, tag_unknown, faces_frames}

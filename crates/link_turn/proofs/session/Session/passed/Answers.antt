@@ -2,7 +2,6 @@ use Rattle.std.proofs.Common.{[], subst, sym, refl}
 use Rattle.link_turn.specs.Steps.{passes, leaves}
 use Rattle.link_turn.specs.SessionSteps.{with_step, passed_step, HasPassedIn, StandsBehind}
 use Rattle.link_turn.specs.declared.session.Phase.{Phase}
-use Rattle.link_turn.specs.declared.session.Phase.TheVariants.{ComingUp, Leaving}
 use Rattle.link_turn.proofs.Answering.{came_up, passed_else}
 use Rattle.link_turn.proofs.session.Session.passed.Goals as goal
 

@@ -1,9 +1,7 @@
 use Rattle.std.proofs.Common.{[], subst, sym, refl}
-use Rattle.std.specs.Prelude.{Ok, Err, None}
-use Rattle.std.specs.Prelude.{Result}
+use Rattle.std.specs.Prelude.{Err}
 use Rattle.gate_model.specs.declared.reply.Refusal.{Refusal}
 use Rattle.gate_model.specs.declared.reply.Refusal.TheVariants as refusal_is
-use Rattle.gate_model.specs.declared.reply.Reply.{Reply}
 use Rattle.link_turn.specs.Steps.{records}
 use Rattle.link_turn.specs.SessionSteps.{with_step, StandsBehind}
 use Rattle.link_turn.proofs.Answering.{message_full, message_refused}

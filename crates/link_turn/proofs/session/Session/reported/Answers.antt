@@ -2,7 +2,7 @@ use Rattle.std.proofs.Common.{List, ℕ, ap, sym, refl}
 use Rattle.std.specs.Prelude.{Some}
 use Rattle.gate_entries.specs.declared.recorded.Recorded.TheVariants as entry
 use Rattle.link_turn.specs.declared.session.Recording.TheVariants as recording_is
-use Rattle.link_turn.specs.Due.{acknowledge, reject, report, arrive}
+use Rattle.link_turn.specs.Due.{report}
 use Rattle.link_turn.proofs.Handling.{records_then}
 use Rattle.link_turn.proofs.session.Session.reported.Goals as goal
 

@@ -1,4 +1,4 @@
-use Rattle.std.proofs.Common.{[], ap}
+use Rattle.std.proofs.Common.{[]}
 use Rattle.link_turn.proofs.Keeping.{tag_taken}
 use Rattle.link_turn.proofs.Answering.{taken_speaks}
 use Rattle.std.specs.Prelude.{Ok, Some}

@@ -1,6 +1,4 @@
-use Rattle.std.proofs.Common.{List, ◌≤◌, length, subst, sym, ap, arith, ◌∙◌}
-use Rattle.link_turn.specs.Session.{IsTag}
-use Rattle.link_turn.specs.declared.session.Session.{Session}
+use Rattle.std.proofs.Common.{List, length, ap, arith}
 use Rattle.link_turn.specs.declared.submitted.Submitted.{Submitted}
 use Rattle.link_turn.proofs.Pigeons.{length-without}
 use Rattle.link_turn.proofs.session.Session.take_answered.Goals as goal

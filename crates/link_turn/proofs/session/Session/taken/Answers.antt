@@ -1,11 +1,8 @@
 use Rattle.std.proofs.Common.{[], subst, sym}
-use Rattle.std.specs.Prelude.{Option, Ok, Err, None}
+use Rattle.std.specs.Prelude.{Option, Err, None}
 use Rattle.std.specs.Prelude.{Result}
 use Rattle.gate_model.specs.declared.reply.Refusal.{Refusal}
-use Rattle.gate_model.specs.declared.reply.Refusal.TheVariants as refusal_is
-use Rattle.gate_model.specs.declared.reply.Reply.{Reply}
 use Rattle.gate_store.specs.declared.taken.Taken.{Taken}
-use Rattle.gate_store.specs.declared.taken.Taken.TheVariants as taken
 use Rattle.link_turn.specs.Steps.{takes}
 use Rattle.link_turn.specs.SessionSteps.{with_step, Ends, StandsBehind}
 use Rattle.link_turn.specs.declared.end_cause.EndCause.{EndCause}
