@@ -108,7 +108,7 @@ of_taken link message waiting held up old new of there we ue =
             | inl before ↦ ap (lease_under k) we ∙ change_lease_other k message change old.waiting (λ e. differ (sym e)) ∙ (of.leased k).1 before
             | inr is ↦ absurd (differ (sym is))
           ]
-        ])
+        ]),
       );
       is_up = ap (λ (ups : List Bool). slice_get ups link) ue ∙ of.is_up;
     }
@@ -131,8 +131,8 @@ of_returned link message held up old new of we ue =
               ((of.leased k).0 (sym (change_lease_other k message change old.waiting (λ e. differ (sym e))) ∙ sym (ap (lease_under k) we) ∙ leased))
         ]),
         (λ among.
-          let differ : message ≢ k = λ e. not_among_without message held (subst (λ (n : ℕ). IsAmong n (without_message message held)) (sym e) among) in
-          ap (lease_under k) we ∙ change_lease_other k message change old.waiting differ ∙ (of.leased k).1 (among_before k message held among))
+            let differ : message ≢ k = λ e. not_among_without message held (subst (λ (n : ℕ). IsAmong n (without_message message held)) (sym e) among) in
+            ap (lease_under k) we ∙ change_lease_other k message change old.waiting differ ∙ (of.leased k).1 (among_before k message held among)),
       );
       is_up = ap (λ (ups : List Bool). slice_get ups link) ue ∙ of.is_up;
     }
@@ -179,7 +179,7 @@ no_flight link from below (pair ∷ pairs) rise none =
     let first : is_link link pair.1.lease ≡ false =
     not_its link pair.1.lease (λ e. none pair.0 (rw (same pair.0) e)) in
     let rest : flight_of pairs link ≡ 0 = no_flight link (pair.0 + 1) below pairs rise.2 (λ k leased.
-      let there = lease_there (value_under k pairs) link leased in
-      let above = at_least (pair.0 + 1) below k pairs there.0 rise.2 there.1 in
-      none k (rw (other pair.0 k (λ e. omega (arith, above, e))) leased)) in
+    let there = lease_there (value_under k pairs) link leased in
+    let above = at_least (pair.0 + 1) below k pairs there.0 rise.2 there.1 in
+    none k (rw (other pair.0 k (λ e. omega (arith, above, e))) leased)) in
     count_none link pair pairs first rest
