@@ -73,7 +73,7 @@ either_again a b (Some c) =
     ]
 
 -- what a search from the first place on has found, where one was found before
-found_with : Option (ℕ × ℕ) → List (ℕ × Job) → Option (ℕ × ℕ)
+abbrev found_with : Option (ℕ × ℕ) → List (ℕ × Job) → Option (ℕ × ℕ)
 found_with None pairs = least pairs
 found_with (Some best) pairs = Some (either best (least pairs))
 
