@@ -214,8 +214,7 @@ fn with_link(gate: Gate, is_up: bool) -> Gate
 pub(crate) fn put_gate(alloc: Global, line: &[u8], report: &mut Octets) -> Result<(), Memory> {
     let (head, acts) = cut_item(line);
     let numbers = numbers_of(alloc, head)?;
-    let limits = (nth(numbers.as_slice(), 1), nth(numbers.as_slice(), 2));
-    let rules = rules_of(alloc, nth(numbers.as_slice(), 0), limits)?;
+    let rules = rules_of(alloc, numbers.as_slice())?;
     match Gate::new(alloc, rules) {
         Ok(gate) => {
             let is_up = nth(numbers.as_slice(), 3) == 0;

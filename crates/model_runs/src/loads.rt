@@ -4,7 +4,7 @@ ghost use Rattle.gate_model.specs.Gate.{IsGate};
 ghost use Rattle.gate_model.specs.Loading.{gate_in};
 
 use crate::acts::put_totals;
-use crate::entries::{entry_octets, nth};
+use crate::entries::entry_octets;
 use crate::rules::rules_of;
 use gate_model::{LoadFault, Loader};
 use kn_base::{Memory, Octets};
@@ -64,8 +64,7 @@ fn put_payloads(
 pub(crate) fn put_load(alloc: Global, line: &[u8], report: &mut Octets) -> Result<(), Memory> {
     let (head, acts) = cut_item(line);
     let numbers = numbers_of(alloc, head)?;
-    let limits = (nth(numbers.as_slice(), 1), nth(numbers.as_slice(), 2));
-    let rules = rules_of(alloc, nth(numbers.as_slice(), 0), limits)?;
+    let rules = rules_of(alloc, numbers.as_slice())?;
     match Loader::new(alloc, rules, 1) {
         Ok(loader) => put_payloads(alloc, loader, acts, report),
         Err((_, Memory)) => Err(Memory),

@@ -4,6 +4,7 @@ ghost use Rattle.std.specs.Prelude.{◌≡◌, ◌≤◌, [], length, All, IfOk}
 ghost use Rattle.gate_entries.specs.Entry.{IsText};
 ghost use Rattle.gate_model.specs.Gate.{HaveIds};
 
+use crate::entries::nth;
 use kn_base::{Items, Memory, Octets};
 use route_rules::{LinkKind, LinkRule, Rules};
 use std::alloc::Global;
@@ -41,16 +42,15 @@ fn links_of(alloc: Global, count: u64) -> Result<Items<LinkRule>, Memory>
     Ok(links)
 }
 
-/// Rules of so many links, and with these limits.
-pub(crate) fn rules_of(alloc: Global, links: u64, limits: (u64, u64)) -> Result<Rules, Memory>
+/// The rules of a head: how many links there are, and how many messages and arrivals may be held.
+pub(crate) fn rules_of(alloc: Global, head: &[u64]) -> Result<Rules, Memory>
     ensures few { IfOk result (λ rules. length rules.links ≤ 8) }
     ensures ids { IfOk result HaveIds }
 {
-    let links = links_of(alloc, links)?;
-    let (outgoing, incoming) = limits;
+    let links = links_of(alloc, nth(head, 0))?;
     Ok(Rules {
         links,
-        outgoing,
-        incoming,
+        outgoing: nth(head, 1),
+        incoming: nth(head, 2),
     })
 }

@@ -1,6 +1,6 @@
 //! Acts on a store in memory, whose first link is up, where there is one.
 
-ghost use Rattle.std.specs.Prelude.{◌≡◌, ◌<◌, ◌≤◌, ◌^◌, length, IfOk};
+ghost use Rattle.std.specs.Prelude.{◌≡◌, ◌<◌, ◌≤◌, ◌^◌, length};
 ghost use Rattle.gate_entries.specs.Entry.{IsEntry};
 ghost use Rattle.gate_model.specs.Gate.{HaveIds};
 ghost use Rattle.gate_entries.specs.declared.passing.Passing.TheVariants.{Up};
@@ -239,16 +239,6 @@ fn put_on_disk<D: Disk + Drop>(
     }
 }
 
-/// The rules of a head, `LINKS OUTGOING INCOMING`.
-fn rules_of_head(alloc: Global, head: &[u8]) -> Result<Rules, Memory>
-    ensures few { IfOk result (λ rules. length rules.links ≤ 8) }
-    ensures ids { IfOk result HaveIds }
-{
-    let numbers = numbers_of(alloc, head)?;
-    let numbers = numbers.as_slice();
-    rules_of(alloc, nth(numbers, 0), (nth(numbers, 1), nth(numbers, 2)))
-}
-
 /// A disk that holds nothing, whose calls of these numbers fail.
 fn disk_of(alloc: Global, failing: &[u8]) -> Result<MemDisk, Memory> {
     let failing = numbers_of(alloc, failing)?;
@@ -261,6 +251,6 @@ fn disk_of(alloc: Global, failing: &[u8]) -> Result<MemDisk, Memory> {
 pub(crate) fn put_store(alloc: Global, line: &[u8], report: &mut Octets) -> Result<(), Memory> {
     let (head, rest) = cut_item(line);
     let (failing, acts) = cut_item(rest);
-    let rules = rules_of_head(alloc, head)?;
+    let rules = rules_of(alloc, numbers_of(alloc, head)?.as_slice())?;
     put_on_disk(alloc, disk_of(alloc, failing)?, rules, acts, report)
 }

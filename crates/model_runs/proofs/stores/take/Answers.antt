@@ -1,4 +1,4 @@
-use Rattle.gate_store.proofs.Keeping.{StaysOpen, takes_keeps}
+use Rattle.gate_store.proofs.Keeping.{takes_keeps}
 use Rattle.model_runs.proofs.stores.take.Goals as goal
 
 pub returns-clause-kept : goal.returns-clause-kept
