@@ -35,38 +35,26 @@ awk -v n="$count" 'BEGIN {
 now() { date +%s%N; }
 median() { sort -n "$1" | awk '{ t[NR] = $1 } END { print t[int((NR + 1) / 2)] }'; }
 
-# The time of a run of all requests, less that of a run of none over the same store, in microseconds a message.
-store_run() {
+# Puts last in the file NAME.times the time of a run of all requests under a configuration, each of which is answered by this status, less that of a
+# run of none over the same store, in microseconds a request.
+#   timed NAME CONFIGURATION STATUS
+timed() {
     rm -f gate.store.*
     "$program" door gate.conf < "$here/examples/hello.http" > /dev/null
     start=$(now)
-    "$program" door gate.conf < /dev/null > /dev/null
+    "$program" door "$2" < /dev/null > /dev/null
     opened=$(now)
-    "$program" door gate.conf < requests.http > said
+    "$program" door "$2" < requests.http > said
     end=$(now)
-    heard=$(grep -o 'HTTP/1.1 202 ' said | wc -l)
-    [ "$heard" -eq "$count" ] || { echo "commit.sh: $heard of $count were answered 202" >&2; exit 1; }
-    echo $((((end - opened) - (opened - start)) / 1000 / count)) >> store.times
-}
-
-# The same of requests that are refused behind all else, in microseconds a request.
-refused_run() {
-    rm -f gate.store.*
-    "$program" door gate.conf < "$here/examples/hello.http" > /dev/null
-    start=$(now)
-    "$program" door refusing.conf < /dev/null > /dev/null
-    opened=$(now)
-    "$program" door refusing.conf < requests.http > said
-    end=$(now)
-    refused=$(grep -o 'HTTP/1.1 403 ' said | wc -l)
-    [ "$refused" -eq "$count" ] || { echo "commit.sh: $refused of $count were answered 403" >&2; exit 1; }
-    echo $((((end - opened) - (opened - start)) / 1000 / count)) >> refused.times
+    answered=$(grep -o "HTTP/1.1 $3 " said | wc -l)
+    [ "$answered" -eq "$count" ] || { echo "commit.sh: $answered of $count were answered $3" >&2; exit 1; }
+    echo $((((end - opened) - (opened - start)) / 1000 / count)) >> "$1.times"
 }
 
 i=0
 while [ "$i" -lt "$runs" ]; do
-    store_run
-    refused_run
+    timed store gate.conf 202
+    timed refused refusing.conf 403
     ./commit disk.bin "$count" "$unit" >> disk.times
     i=$((i + 1))
 done

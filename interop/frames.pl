@@ -7,7 +7,7 @@ use warnings;
 use IO::Socket::INET;
 use Net::SMPP;
 
-my %command = (login => 0x09, submit => 0x04, keep => 0x15, enquire => 0x80000015, nack => 0x80000000);
+my %command = (login => 0x09, submit => 0x04, keep => 0x15);
 my $failed = 0;
 my $count = 0;
 
