@@ -6,3 +6,4 @@ pub mod Session
 pub mod Weight
 pub mod SessionSteps
 pub mod Turn
+pub mod TurnSteps

@@ -13,10 +13,14 @@ mod given;
 mod session;
 mod submitted;
 mod terms;
+mod turned;
+mod turning;
 mod wish;
 
 pub use end_cause::EndCause;
 pub use given::Given;
 pub use session::Session;
 pub use terms::Terms;
+pub use turned::Turned;
+pub use turning::turn_solo;
 pub use wish::Wish;
