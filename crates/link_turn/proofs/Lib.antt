@@ -12,3 +12,7 @@ pub mod Checks
 pub mod Stored
 pub mod Chosen
 pub mod Agreement
+pub mod Holding
+pub mod LoggingIn
+pub mod Doing
+pub mod Fitting

@@ -1,10 +1,13 @@
 -- The steps of a turn: what is given, by what was done for it. No public clause cites these.
-use Rattle.std.specs.Prelude.{◌≡◌, ◌⊎◌, ⊤, ℕ, ◌<◌, Bool, true, false, List, [], ◌∷◌, Option, Some, None, length}
+use Rattle.std.specs.Prelude.{◌≡◌, ◌⊎◌, ⊤, ℕ, ◌<◌, Bool, true, false, List, [], ◌∷◌, Option, Some, None, Result, length}
 use Rattle.gate_model.specs.Lawful.{MayPass}
+use Rattle.gate_model.specs.declared.reply.Refusal.{Refusal}
+use Rattle.gate_model.specs.declared.reply.Reply.{Reply}
 use Rattle.gate_store.specs.Deeds.{Performs, Passes, Takes}
 use Rattle.gate_store.specs.Store.{rules_in, state_in}
 use Rattle.gate_store.specs.StoreSteps.{MayRecord}
 use Rattle.gate_store.specs.declared.store.Store.{Store}
+use Rattle.gate_store.specs.declared.taken.Taken.{Taken}
 use Rattle.kn_base.specs.Count.{Rose}
 use Rattle.kn_base.specs.Course.{Course, with_more, IsQuiet, Fails, Ends}
 use Rattle.kn_base.specs.Talk.{SaysAll, SaysFront}
@@ -69,9 +72,11 @@ IsAtEnd stop wish end = ⊥
 module _ {D : Type 0} (tells : Bool) (story : D → Story) (faults calls : D → ℕ) where
   -- one thing that is wished was done, and this came of it
   abbrev pub Does : (link : ℕ) → (stop : Bool) → Wish → Given → Course → Course → Store D → Store D → Type 0
-  Does link stop wish_is.Listen given_is.Stop old new store after = (stop ≡ true) × (new ≡ old) × (after ≡ store)
+  Does link stop wish_is.Listen given old new store after = (given ≡ given_is.Stop) × (stop ≡ true) × (new ≡ old) × (after ≡ store)
   Does link stop (wish_is.Say octets) given old new store after = SaysSo octets old given new × (after ≡ store)
-  Does link stop (wish_is.Perform kept) (given_is.Answered outcome) old new store after = Performs tells story faults calls store kept outcome after × (new ≡ old)
-  Does link stop (wish_is.Pass brief) given_is.Passed old new store after = Passes tells story faults calls store brief after × (new ≡ old)
-  Does link stop (wish_is.TakeNext now) (given_is.Taken outcome) old new store after = Takes tells story faults calls store link now outcome after × (new ≡ old)
-  Does link stop wish given old new store after = ⊥
+  Does link stop (wish_is.Perform kept) given old new store after =
+      (outcome : Result Reply Refusal) × (given ≡ given_is.Answered outcome) × Performs tells story faults calls store kept outcome after × (new ≡ old)
+  Does link stop (wish_is.Pass brief) given old new store after = (given ≡ given_is.Passed) × Passes tells story faults calls store brief after × (new ≡ old)
+  Does link stop (wish_is.TakeNext now) given old new store after =
+      (outcome : Result (Option Taken) Refusal) × (given ≡ given_is.Taken outcome) × Takes tells story faults calls store link now outcome after × (new ≡ old)
+  Does link stop (wish_is.Over cause) given old new store after = ⊥
