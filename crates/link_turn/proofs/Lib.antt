@@ -16,3 +16,6 @@ pub mod Holding
 pub mod LoggingIn
 pub mod Doing
 pub mod Fitting
+pub mod TalkingOn
+pub mod Causing
+pub mod Falling
