@@ -19,3 +19,5 @@ pub mod Fitting
 pub mod TalkingOn
 pub mod Causing
 pub mod Falling
+pub mod Lightening
+pub mod Carrying

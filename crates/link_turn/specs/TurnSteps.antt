@@ -187,3 +187,12 @@ module _ {C D : Type 0} (hears : List ℕ → Heard → Type 0) (refuses : List 
     pub talks : TalksOn tells story faults calls (said core) terms.link talk later old new told now_told store after
     pub unheard : later.heard ≡ talk.heard
     pub stands : StandsAtEnd end later session
+
+  -- The same where something is wished: nothing was heard since, and where the session is over its talk is that of a link.
+  pub record Carries (talk : Talk) (old new : Course) (told now_told : Option (List ℕ)) (store after : Store D) (wish : Wish) (session : Session C) : Type 0 where
+    pub later : Talk
+    pub talks : TalksOn tells story faults calls (said core) terms.link talk later old new told now_told store after
+    pub unheard : later.heard ≡ talk.heard
+    pub stands : Stands hears refuses said core terms wish later session
+    pub ended : (cause : EndCause) → wish ≡ wish_is.Over cause
+        → LinkTalk hears refuses (said core) terms later.heard (spoken_in (said core) later) later.readings (deeds_in later.steps) cause

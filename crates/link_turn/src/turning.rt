@@ -73,6 +73,7 @@ fn carry_out<C: LinkCore, D: Disk, P: Peer, K: Clock>(
     requires wishes { doing.Wishes C.tags C.next_tag C.holds C.kind C.hears C.refuses C.said D.tells D.story first session.old store.old (K.latest clock.old) }
     requires no_reports { turn.HearsNoReport C.hears }
     ensures done { doing.IsDone C.tags C.next_tag C.holds C.kind C.hears C.refuses C.said D.tells D.story result session.new store.new (K.latest clock.new) }
+    ensures terms { spec.terms_of session.new ≡ spec.terms_of session.old }
     ensures rules { rules_in store.new ≡ rules_in store.old }
     ensures stop { doing.IsToStop stop result }
     ensures counts { doing.CountsCause stop (weight.cause_in first session.old.phase) result (P.course peer.old).counts (P.course peer.new).counts }
