@@ -21,3 +21,5 @@ pub mod Causing
 pub mod Falling
 pub mod Lightening
 pub mod Carrying
+pub mod Turning
+pub mod Counting
