@@ -85,7 +85,7 @@ module _ {C D : Type 0} (tells : Bool) (story : D → Story) (faults calls : D �
   of_later link stop wish given talk later old new store after open_ d may one same deeds of =
       let now = of_done link stop wish given (deeds_in talk.steps) old new store after open_ d may one same
       (subst (λ (hs : List ℕ). IsOf terms.link hs (up_in (deeds_in talk.steps)) (state_in store)) (held_is talk.steps)
-          (subst (λ (up : Bool). IsOf terms.link (held talk.steps) up (state_in store)) (up_is talk.steps) of)) in
+      (subst (λ (up : Bool). IsOf terms.link (held talk.steps) up (state_in store)) (up_is talk.steps) of)) in
       let all : List Deed = deeds_by wish given ++ deeds_in talk.steps in
       subst (λ (hs : List ℕ). IsOf terms.link hs (is_up later.steps) (state_in after)) (sym (held_is later.steps ∙ ap held_in deeds))
       (subst (λ (up : Bool). IsOf terms.link (held_in all) up (state_in after)) (sym (up_is later.steps ∙ ap up_in deeds)) now)

@@ -82,7 +82,7 @@ module _ {C D : Type 0} (tells : Bool) (story : D → Story) (faults calls : D �
       let between = ap (λ (c : Course). c.counts) front.front.after ∙ none.1 in
       comes_to stop before (cause_in next after.phase) end_is.PeerFault start new.counts (subst (λ (g : Given). EndsBy s g next after) is ends) none.0
       (subst (λ (c : Counts). Rose c.faults new.counts.faults) between (fault_rose front.between new front.fails
-          (λ rose. not (subst (λ (c : Counts). Rose c.starved new.counts.starved) (ap (λ (c : Course). c.counts) front.front.after) rose))))
+      (λ rose. not (subst (λ (c : Counts). Rose c.starved new.counts.starved) (ap (λ (c : Course). c.counts) front.front.after) rose))))
   spoke_moves stop before start octets given old new s after next (starved is gone front rose) none ends =
       comes_to stop before (cause_in next after.phase) end_is.Memory start new.counts (subst (λ (g : Given). EndsBy s g next after) is ends) none.0 tt
 

@@ -134,11 +134,14 @@ may_record_due store link smsc (acknowledge message foreign) time kept is good i
     let good' : IsEntry made = subst IsEntry (sym same) good in
     let there = leased_held (state_in store) message (leased message (ap ended_by (sym same))) in
     let soon = reading_is time (in_time (ap times_of_entry (sym same))) in
-    subst (λ (k : Recorded). MayRecord store k × IsOfLink k) same (record {
-      served = refl;
-      sound = (good', ap (λ (b : Bool). b && is_time time) there ∙ soon);
-      small = omega (arith, entry_bound made good');
-    }, tt)
+    subst (λ (k : Recorded). MayRecord store k × IsOfLink k) same (
+      record {
+        served = refl;
+        sound = (good', ap (λ (b : Bool). b && is_time time) there ∙ soon);
+        small = omega (arith, entry_bound made good');
+      },
+      tt,
+    )
 may_record_due store link smsc (reject message code) time kept is good in_time leased none =
     let made : Recorded = entry.Rejected (record { message = message; smsc = smsc; cause = Centre code; time = time }) in
     let both : Some made ≡ Some kept = is in
@@ -146,22 +149,28 @@ may_record_due store link smsc (reject message code) time kept is good in_time l
     let good' : IsEntry made = subst IsEntry (sym same) good in
     let there = leased_held (state_in store) message (leased message (ap ended_by (sym same))) in
     let soon = reading_is time (in_time (ap times_of_entry (sym same))) in
-    subst (λ (k : Recorded). MayRecord store k × IsOfLink k) same (record {
-      served = refl;
-      sound = (good', ap (λ (b : Bool). b && is_time time) there ∙ soon);
-      small = omega (arith, entry_bound made good');
-    }, tt)
+    subst (λ (k : Recorded). MayRecord store k × IsOfLink k) same (
+      record {
+        served = refl;
+        sound = (good', ap (λ (b : Bool). b && is_time time) there ∙ soon);
+        small = omega (arith, entry_bound made good');
+      },
+      tt,
+    )
 may_record_due store link smsc (report foreign kind text) time kept is good in_time leased none = absurd (none foreign kind text refl)
 may_record_due store link smsc (arrive sms) time kept is good in_time leased none =
     let made : Recorded = entry.Arrived (record { smsc = smsc; sms = record sms { smsc = smsc; time = time } }) in
     let both : Some made ≡ Some kept = is in
     let same : made ≡ kept = cc in
     let good' : IsEntry made = subst IsEntry (sym same) good in
-    subst (λ (k : Recorded). MayRecord store k × IsOfLink k) same (record {
-      served = refl;
-      sound = (good', refl);
-      small = omega (arith, entry_bound made good');
-    }, tt)
+    subst (λ (k : Recorded). MayRecord store k × IsOfLink k) same (
+      record {
+        served = refl;
+        sound = (good', refl);
+        small = omega (arith, entry_bound made good');
+      },
+      tt,
+    )
 may_record_due store link smsc nothing time kept is good in_time leased none = absurd (let e : None ≡ Some kept = is in cc)
 may_record_due store link smsc log_in time kept is good in_time leased none = absurd (let e : None ≡ Some kept = is in cc)
 may_record_due store link smsc come_up time kept is good in_time leased none = absurd (let e : None ≡ Some kept = is in cc)
@@ -200,7 +209,7 @@ module _ {C D : Type 0} (hears_so : List ℕ → Heard → Type 0) (refuses : Li
       may_record_due store terms.link terms.smsc (due talk.steps) r.time kept r.entry good
       (λ times. last_in_time (times_in talk.steps) r.time talk.readings (subst (λ (ts : List ℕ). AreReadings (times_in talk.steps ++ ts) talk.readings) times r.timed) all)
       (λ message ends. held_is_leased terms.link message (held talk.steps) up (state_in store) of
-          (subst (λ (o : Option ℕ). IfSome o (λ m. IsAmong m (held talk.steps))) (sym r.ends ∙ ends) r.holds.among))
+      (subst (λ (o : Option ℕ). IfSome o (λ m. IsAmong m (held talk.steps))) (sym r.ends ∙ ends) r.holds.among))
       (no_report_due recording talk.steps talk.heard session.kept none r.to_record r.frames)
 
   -- ---- what is to pass

@@ -81,8 +81,7 @@ module _ {D : Type 0} (tells : Bool) (story : D → Story) (faults calls : D →
       let few = open_.2.whole.bounded.entries in
       let free : lease_under message state.waiting ≡ None = ap (option_and_then (λ (x : Waiting). x.lease)) w.1 ∙ w.2.0 in
       let due = w.2.1 in
-      let asked : w.0.sms.time ≤ now = omega (arith, due, order) in
-      (
+      let asked : w.0.sms.time ≤ now = omega (arith, due, order) in (
         record {
           numbered = omega (arith, below, last, few, is);
           recorded = subst IsSms sms_same (message_of message state.waiting w.0 (stored store open_) w.1);

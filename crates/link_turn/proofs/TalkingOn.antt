@@ -129,78 +129,97 @@ module _ {D : Type 0} (tells : Bool) (story : D → Story) (faults calls : D →
 
   comes_spoken : (link : ℕ) (octets : List ℕ) (given : Given) (old new : Course) (store after : Store D) → Spoke octets given old new → after ≡ store
       → (cut : List ℕ) × Comes link (wish_is.Say octets) given cut old new store after
-  comes_spoken link octets given old new store after (said_all is all) same = ([], subst (λ (g : Given). Comes link (wish_is.Say octets) g [] old new store after) (sym is) (record {
-    pieces = all.pieces;
-    told_so = ap (λ (c : Course). c.talk) all.after;
-    heard = all.nothing_heard;
-    said_so = all.said;
-    may = tt;
-    led = same;
-    fell = fell_same old.counts new.counts (ap (λ (c : Course). c.counts) all.after);
-  }))
+  comes_spoken link octets given old new store after (said_all is all) same = (
+    [],
+    subst (λ (g : Given). Comes link (wish_is.Say octets) g [] old new store after) (sym is) (record {
+      pieces = all.pieces;
+      told_so = ap (λ (c : Course). c.talk) all.after;
+      heard = all.nothing_heard;
+      said_so = all.said;
+      may = tt;
+      led = same;
+      fell = fell_same old.counts new.counts (ap (λ (c : Course). c.counts) all.after);
+    }),
+  )
   comes_spoken link octets given old new store after (faulted is gone front not) same =
-      let cut : List ℕ = take gone octets in
-      (cut, subst (λ (g : Given). Comes link (wish_is.Say octets) g cut old new store after) (sym is) (record {
-        pieces = front.front.pieces;
-        told_so = ap (λ (c : Course). c.talk) front.fails.same ∙ ap (λ (c : Course). c.talk) front.front.after;
-        heard = front.front.nothing_heard;
-        said_so = front.front.said;
-        may = (gone, front.less, refl);
-        led = same;
-        fell = fell_then old.counts front.between.counts new.counts (fell_same old.counts front.between.counts (ap (λ (c : Course). c.counts) front.front.after)) (fell_failed front.between new front.fails);
-      }))
+      let cut : List ℕ = take gone octets in (
+        cut,
+        subst (λ (g : Given). Comes link (wish_is.Say octets) g cut old new store after) (sym is) (record {
+          pieces = front.front.pieces;
+          told_so = ap (λ (c : Course). c.talk) front.fails.same ∙ ap (λ (c : Course). c.talk) front.front.after;
+          heard = front.front.nothing_heard;
+          said_so = front.front.said;
+          may = (gone, front.less, refl);
+          led = same;
+          fell = fell_then old.counts front.between.counts new.counts (fell_same old.counts front.between.counts (ap (λ (c : Course). c.counts) front.front.after)) (fell_failed front.between new front.fails);
+        }),
+      )
   comes_spoken link octets given old new store after (starved is gone front rose) same =
-      let cut : List ℕ = take gone octets in
-      (cut, subst (λ (g : Given). Comes link (wish_is.Say octets) g cut old new store after) (sym is) (record {
-        pieces = front.front.pieces;
-        told_so = ap (λ (c : Course). c.talk) front.fails.same ∙ ap (λ (c : Course). c.talk) front.front.after;
-        heard = front.front.nothing_heard;
-        said_so = front.front.said;
-        may = (gone, front.less, refl);
-        led = same;
-        fell = fell_then old.counts front.between.counts new.counts (fell_same old.counts front.between.counts (ap (λ (c : Course). c.counts) front.front.after)) (fell_failed front.between new front.fails);
-      }))
+      let cut : List ℕ = take gone octets in (
+        cut,
+        subst (λ (g : Given). Comes link (wish_is.Say octets) g cut old new store after) (sym is) (record {
+          pieces = front.front.pieces;
+          told_so = ap (λ (c : Course). c.talk) front.fails.same ∙ ap (λ (c : Course). c.talk) front.front.after;
+          heard = front.front.nothing_heard;
+          said_so = front.front.said;
+          may = (gone, front.less, refl);
+          led = same;
+          fell = fell_then old.counts front.between.counts new.counts (fell_same old.counts front.between.counts (ap (λ (c : Course). c.counts) front.front.after)) (fell_failed front.between new front.fails);
+        }),
+      )
 
   -- what came of a wish
   pub comes_done : (link : ℕ) (stop : Bool) (wish : Wish) (given : Given) (old new : Course) (store after : Store D) → Does tells story faults calls link stop wish given old new store after
       → (cut : List ℕ) × Comes link wish given cut old new store after
-  comes_done link stop wish_is.Listen given old new store after d = ([], subst (λ (g : Given). Comes link wish_is.Listen g [] old new store after) (sym d.0) (record {
-    pieces = [];
-    told_so = silent old new d.2;
-    heard = refl;
-    said_so = refl;
-    may = tt;
-    led = d.3;
-    fell = kept_counts old new d.2;
-  }))
+  comes_done link stop wish_is.Listen given old new store after d = (
+    [],
+    subst (λ (g : Given). Comes link wish_is.Listen g [] old new store after) (sym d.0) (record {
+      pieces = [];
+      told_so = silent old new d.2;
+      heard = refl;
+      said_so = refl;
+      may = tt;
+      led = d.3;
+      fell = kept_counts old new d.2;
+    }),
+  )
   comes_done link stop (wish_is.Say octets) given old new store after d = comes_spoken link octets given old new store after (spoke_so octets given old new d.0) d.1
-  comes_done link stop (wish_is.Perform kept) given old new store after d = ([], subst (λ (g : Given). Comes link (wish_is.Perform kept) g [] old new store after) (sym d.1) (record {
-    pieces = [];
-    told_so = silent old new d.3;
-    heard = refl;
-    said_so = refl;
-    may = tt;
-    led = (store, refl, d.2);
-    fell = kept_counts old new d.3;
-  }))
-  comes_done link stop (wish_is.Pass brief) given old new store after d = ([], subst (λ (g : Given). Comes link (wish_is.Pass brief) g [] old new store after) (sym d.0) (record {
-    pieces = [];
-    told_so = silent old new d.2;
-    heard = refl;
-    said_so = refl;
-    may = tt;
-    led = (store, refl, d.1);
-    fell = kept_counts old new d.2;
-  }))
-  comes_done link stop (wish_is.TakeNext now) given old new store after d = ([], subst (λ (g : Given). Comes link (wish_is.TakeNext now) g [] old new store after) (sym d.1) (record {
-    pieces = [];
-    told_so = silent old new d.3;
-    heard = refl;
-    said_so = refl;
-    may = tt;
-    led = (store, refl, d.2);
-    fell = kept_counts old new d.3;
-  }))
+  comes_done link stop (wish_is.Perform kept) given old new store after d = (
+    [],
+    subst (λ (g : Given). Comes link (wish_is.Perform kept) g [] old new store after) (sym d.1) (record {
+      pieces = [];
+      told_so = silent old new d.3;
+      heard = refl;
+      said_so = refl;
+      may = tt;
+      led = (store, refl, d.2);
+      fell = kept_counts old new d.3;
+    }),
+  )
+  comes_done link stop (wish_is.Pass brief) given old new store after d = (
+    [],
+    subst (λ (g : Given). Comes link (wish_is.Pass brief) g [] old new store after) (sym d.0) (record {
+      pieces = [];
+      told_so = silent old new d.2;
+      heard = refl;
+      said_so = refl;
+      may = tt;
+      led = (store, refl, d.1);
+      fell = kept_counts old new d.2;
+    }),
+  )
+  comes_done link stop (wish_is.TakeNext now) given old new store after d = (
+    [],
+    subst (λ (g : Given). Comes link (wish_is.TakeNext now) g [] old new store after) (sym d.1) (record {
+      pieces = [];
+      told_so = silent old new d.3;
+      heard = refl;
+      said_so = refl;
+      may = tt;
+      led = (store, refl, d.2);
+      fell = kept_counts old new d.3;
+    }),
+  )
   comes_done link stop (wish_is.Over cause) given old new store after d = absurd d
 
   -- what a turn begins with

@@ -139,7 +139,7 @@ module _ {C D : Type 0} (tags : ℕ) (next_tag : Option ℕ → ℕ) (holds : �
       let of : IsOf terms.link (held talk.steps) (is_up talk.steps) (state_in store) =
       subst (λ (t : Terms). IsOf t.link (held talk.steps) (is_up talk.steps) (state_in store)) same
       (subst (λ (hs : List ℕ). IsOf s.terms.link hs (is_up talk.steps) (state_in store)) (sym h.0)
-          (subst (λ (up : Bool). IsOf s.terms.link (messages (used_by s)) up (state_in store)) (sym h.1) m.of)) in
+      (subst (λ (up : Bool). IsOf s.terms.link (messages (used_by s)) up (state_in store)) (sym h.1) m.of)) in
       record {
         sound = sound;
         entry = entry;
@@ -202,7 +202,7 @@ module _ {C D : Type 0} (tags : ℕ) (next_tag : Option ℕ → ℕ) (holds : �
         w.opened,
         subst (λ (t : Terms). IsOf t.link [] false (state_in store)) (sym same ∙ kept)
             (subst (λ (hs : List ℕ). IsOf w.terms.link hs false (state_in store)) o.1.none_held
-                (subst (λ (up : Bool). IsOf w.terms.link (held w.talk.steps) up (state_in store)) o.1.is_down w.of)),
+            (subst (λ (up : Bool). IsOf w.terms.link (held w.talk.steps) up (state_in store)) o.1.is_down w.of)),
       )
 
   -- ---- its talk
