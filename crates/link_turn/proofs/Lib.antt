@@ -23,3 +23,5 @@ pub mod Lightening
 pub mod Carrying
 pub mod Turning
 pub mod Counting
+pub mod Failing
+pub mod Beginning
