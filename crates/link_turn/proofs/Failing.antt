@@ -190,13 +190,13 @@ module _ {D : Type 0} (tells : Bool) (story : D → Story) (faults calls : D →
   passes_faults old new brief done = subst (λ (d : D). faults_of old ≤ faults d) (sym done.disk) (omega arith)
 
   withheld_faults : (expired : Bool) (old new : Store D) (link now message : ℕ) (refusal : Refusal) → Withholds tells story faults calls expired old link now message refusal new
-      → (faults_of old ≤ faults_of new) × (is_by_disk {Option Taken} (Err refusal) ≡ true → Rose (faults_of old) (faults_of new))
+      → (faults_of old ≤ faults_of new) × (is_by_disk {T = Option Taken} (Err refusal) ≡ true → Rose (faults_of old) (faults_of new))
   withheld_faults true old new link now message refusal (inl done) =
-      (counted_on (is_by_disk {Reply} (Err refusal)) (faults_of old) (faults_of new) done.counted, λ is. counted_rose (is_by_disk {Reply} (Err refusal)) (faults_of old) (faults_of new) done.counted is)
+      (counted_on (is_by_disk {T = Reply} (Err refusal)) (faults_of old) (faults_of new) done.counted, λ is. counted_rose (is_by_disk {T = Reply} (Err refusal)) (faults_of old) (faults_of new) done.counted is)
   withheld_faults true old new link now message refusal (inr none) =
-      (same_faults old new none.1, λ is. absurd (let e : false ≡ true = subst (λ (r : Refusal). is_by_disk {Option Taken} (Err r) ≡ true) none.0 is in cc))
+      (same_faults old new none.1, λ is. absurd (let e : false ≡ true = subst (λ (r : Refusal). is_by_disk {T = Option Taken} (Err r) ≡ true) none.0 is in cc))
   withheld_faults false old new link now message refusal none =
-      (same_faults old new none.1, λ is. absurd (let e : false ≡ true = subst (λ (r : Refusal). is_by_disk {Option Taken} (Err r) ≡ true) none.0 is in cc))
+      (same_faults old new none.1, λ is. absurd (let e : false ≡ true = subst (λ (r : Refusal). is_by_disk {T = Option Taken} (Err r) ≡ true) none.0 is in cc))
 
   taken_one_faults : (old new : Store D) (link now message : ℕ) (outcome : Result (Option Taken) Refusal) → TakesMessage tells story faults calls old link now message outcome new
       → (faults_of old ≤ faults_of new) × (is_by_disk outcome ≡ true → Rose (faults_of old) (faults_of new))
