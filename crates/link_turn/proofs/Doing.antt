@@ -273,7 +273,7 @@ module _ {C : Type 0} (hears_so : List ℕ → Heard → Type 0) (refuses : List
   may_in tells story store (phase_is.Saying saying) wish talk session none stands good all soon open_ of = subst (May store) (sym stands.1) (tt, tt)
   may_in tells story store (phase_is.Recording recording) wish talk session none stands good all soon open_ of =
       subst (May store) (sym stands.1)
-      (may_record store recording stands.0 talk session (is_up talk.steps) none stands.2 (subst MayBeRecorded stands.1 good) all of)
+      (may_record store recording stands.0 talk session (is_up talk.steps) none stands.2 (subst MayBeRecorded stands.1 good).0 all of)
   may_in tells story store ComingUp wish talk session none stands good all soon open_ of =
       subst (May store) (sym stands.0)
       (of.is_up ∙ ap Some (comes_up_down terms talk.steps stands.1.keeps.agrees.each stands.1.due_is), refl)

@@ -3,8 +3,8 @@
 ghost use Rattle.std.specs.Prelude.{◌≡◌, ◌↔◌, ◌≤◌, ◌+◌, ℕ, List, IsTrue, IfOk, length};
 ghost use Rattle.sms_record.specs.declared.limits.TheConstants.{MOST_NAME};
 ghost use Rattle.link_turn.specs.Session as spec;
-ghost use Rattle.link_turn.specs.SessionSteps as steps;
 ghost use Rattle.link_turn.specs.Weight as weight;
+ghost use Rattle.link_turn.specs.SessionSteps as steps;
 ghost use Rattle.link_turn.specs.declared.wish.Wish.{Wish as Wishes};
 
 mod answering;
