@@ -7,13 +7,13 @@ use Rattle.gate_store.specs.declared.store.Store.{Store}
 use Rattle.kn_base.specs.Clock.{Adds}
 use Rattle.kn_base.specs.Count.{Counts}
 use Rattle.kn_base.specs.Course.{Course, with_more, Fails, IsQuiet, Ends}
-use Rattle.kn_base.specs.Talk.{said_of, heard_of}
+use Rattle.kn_base.specs.Talk.{said_of, heard_of, SaysFront}
 use Rattle.kn_base.specs.declared.piece.Piece.{Piece}
 use Rattle.kn_base.specs.declared.piece.Piece.TheVariants as piece_is
 use Rattle.kn_base.proofs.Talks.{said_of-append, heard_of-append, with_more-nil, with_more-with_more}
 use Rattle.link_core.specs.declared.out.Out.{Out}
 use Rattle.store_disk.specs.Story.{Story}
-use Rattle.link_turn.specs.Session.{Talk, GoesOn, spoken_in, heard_by, spoken_by, deeds_by, MayBeCut}
+use Rattle.link_turn.specs.Session.{Talk, GoesOn, spoken_in, heard_by, spoken_by, deeds_by, MayBeCut, IsCutShort}
 use Rattle.link_turn.specs.Steps.{Deed, performed, passed, took, deeds_in}
 use Rattle.link_turn.specs.Turn.{IsReading, NoneFell, Reads, Leads, TalksOn}
 use Rattle.link_turn.specs.TurnSteps.{Does, HearsSo, BeginsWith}
@@ -119,12 +119,41 @@ module _ {D : Type 0} (tells : Bool) (story : D → Story) (faults calls : D →
     pub led : Leads tells story faults calls link store (deeds_by wish given) after
     pub fell : NoneFell old.counts new.counts
 
-  -- nothing happened to the peer
-  silent : (old new : Course) → new ≡ old → new.talk ≡ with_more old.talk []
-  silent old new same = ap (λ (c : Course). c.talk) same ∙ sym (with_more-nil old.talk)
-
   kept_counts : (old new : Course) → new ≡ old → NoneFell old.counts new.counts
   kept_counts old new same = fell_same old.counts new.counts (ap (λ (c : Course). c.counts) same)
+
+  -- nothing was heard and said
+  unheard : (link : ℕ) (wish : Wish) (given : Given) (old new : Course) (store after : Store D) → heard_by given ≡ [] → spoken_by wish given [] ≡ [] → MayBeCut wish given []
+      → Leads tells story faults calls link store (deeds_by wish given) after → new.talk ≡ old.talk → NoneFell old.counts new.counts → Comes link wish given [] old new store after
+  unheard link wish given old new store after none nothing may led same fell = record {
+    pieces = [];
+    told_so = same ∙ sym (with_more-nil old.talk);
+    heard = sym none;
+    said_so = sym nothing;
+    may = may;
+    led = led;
+    fell = fell;
+  }
+
+  -- nothing happened to the peer
+  apart : (link : ℕ) (wish : Wish) (given : Given) (old new : Course) (store after : Store D) → heard_by given ≡ [] → spoken_by wish given [] ≡ [] → MayBeCut wish given []
+      → Leads tells story faults calls link store (deeds_by wish given) after → new ≡ old → Comes link wish given [] old new store after
+  apart link wish given old new store after none nothing may led same =
+      unheard link wish given old new store after none nothing may led (ap (λ (c : Course). c.talk) same) (kept_counts old new same)
+
+  -- saying something broke off
+  comes_broken : (link : ℕ) (octets : List ℕ) (gone : ℕ) (given : Given) (old new : Course) (store after : Store D) → SaysFront octets gone old new → after ≡ store → heard_by given ≡ []
+      → spoken_by (wish_is.Say octets) given (take gone octets) ≡ take gone octets → (IsCutShort octets (take gone octets) → MayBeCut (wish_is.Say octets) given (take gone octets))
+      → Comes link (wish_is.Say octets) given (take gone octets) old new store after
+  comes_broken link octets gone given old new store after front same none spoken may = record {
+    pieces = front.front.pieces;
+    told_so = ap (λ (c : Course). c.talk) front.fails.same ∙ ap (λ (c : Course). c.talk) front.front.after;
+    heard = front.front.nothing_heard ∙ sym none;
+    said_so = front.front.said ∙ sym spoken;
+    may = may (gone, front.less, refl);
+    led = same;
+    fell = fell_then old.counts front.between.counts new.counts (fell_same old.counts front.between.counts (ap (λ (c : Course). c.counts) front.front.after)) (fell_failed front.between new front.fails);
+  }
 
   comes_spoken : (link : ℕ) (octets : List ℕ) (given : Given) (old new : Course) (store after : Store D) → Spoke octets given old new → after ≡ store
       → (cut : List ℕ) × Comes link (wish_is.Say octets) given cut old new store after
@@ -140,84 +169,37 @@ module _ {D : Type 0} (tells : Bool) (story : D → Story) (faults calls : D →
       fell = fell_same old.counts new.counts (ap (λ (c : Course). c.counts) all.after);
     }),
   )
-  comes_spoken link octets given old new store after (faulted is gone front not) same =
-      let cut : List ℕ = take gone octets in (
-        cut,
-        subst (λ (g : Given). Comes link (wish_is.Say octets) g cut old new store after) (sym is) (record {
-          pieces = front.front.pieces;
-          told_so = ap (λ (c : Course). c.talk) front.fails.same ∙ ap (λ (c : Course). c.talk) front.front.after;
-          heard = front.front.nothing_heard;
-          said_so = front.front.said;
-          may = (gone, front.less, refl);
-          led = same;
-          fell = fell_then old.counts front.between.counts new.counts (fell_same old.counts front.between.counts (ap (λ (c : Course). c.counts) front.front.after)) (fell_failed front.between new front.fails);
-        }),
-      )
-  comes_spoken link octets given old new store after (starved is gone front rose) same =
-      let cut : List ℕ = take gone octets in (
-        cut,
-        subst (λ (g : Given). Comes link (wish_is.Say octets) g cut old new store after) (sym is) (record {
-          pieces = front.front.pieces;
-          told_so = ap (λ (c : Course). c.talk) front.fails.same ∙ ap (λ (c : Course). c.talk) front.front.after;
-          heard = front.front.nothing_heard;
-          said_so = front.front.said;
-          may = (gone, front.less, refl);
-          led = same;
-          fell = fell_then old.counts front.between.counts new.counts (fell_same old.counts front.between.counts (ap (λ (c : Course). c.counts) front.front.after)) (fell_failed front.between new front.fails);
-        }),
-      )
+  comes_spoken link octets given old new store after (faulted is gone front not) same = (
+    take gone octets,
+    subst (λ (g : Given). Comes link (wish_is.Say octets) g (take gone octets) old new store after) (sym is)
+        (comes_broken link octets gone given_is.SayFault old new store after front same refl refl (λ cut. cut)),
+  )
+  comes_spoken link octets given old new store after (starved is gone front rose) same = (
+    take gone octets,
+    subst (λ (g : Given). Comes link (wish_is.Say octets) g (take gone octets) old new store after) (sym is)
+        (comes_broken link octets gone given_is.Starved old new store after front same refl refl (λ cut. cut)),
+  )
 
   -- what came of a wish
   pub comes_done : (link : ℕ) (stop : Bool) (wish : Wish) (given : Given) (old new : Course) (store after : Store D) → Does tells story faults calls link stop wish given old new store after
       → (cut : List ℕ) × Comes link wish given cut old new store after
-  comes_done link stop wish_is.Listen given old new store after d = (
-    [],
-    subst (λ (g : Given). Comes link wish_is.Listen g [] old new store after) (sym d.0) (record {
-      pieces = [];
-      told_so = silent old new d.2;
-      heard = refl;
-      said_so = refl;
-      may = tt;
-      led = d.3;
-      fell = kept_counts old new d.2;
-    }),
-  )
+  comes_done link stop wish_is.Listen given old new store after d =
+      ([], subst (λ (g : Given). Comes link wish_is.Listen g [] old new store after) (sym d.0) (apart link wish_is.Listen given_is.Stop old new store after refl refl tt d.3 d.2))
   comes_done link stop (wish_is.Say octets) given old new store after d = comes_spoken link octets given old new store after (spoke_so octets given old new d.0) d.1
   comes_done link stop (wish_is.Perform kept) given old new store after d = (
     [],
-    subst (λ (g : Given). Comes link (wish_is.Perform kept) g [] old new store after) (sym d.1) (record {
-      pieces = [];
-      told_so = silent old new d.3;
-      heard = refl;
-      said_so = refl;
-      may = tt;
-      led = (store, refl, d.2);
-      fell = kept_counts old new d.3;
-    }),
+    subst (λ (g : Given). Comes link (wish_is.Perform kept) g [] old new store after) (sym d.1)
+        (apart link (wish_is.Perform kept) (given_is.Answered d.0) old new store after refl refl tt (store, refl, d.2) d.3),
   )
   comes_done link stop (wish_is.Pass brief) given old new store after d = (
     [],
-    subst (λ (g : Given). Comes link (wish_is.Pass brief) g [] old new store after) (sym d.0) (record {
-      pieces = [];
-      told_so = silent old new d.2;
-      heard = refl;
-      said_so = refl;
-      may = tt;
-      led = (store, refl, d.1);
-      fell = kept_counts old new d.2;
-    }),
+    subst (λ (g : Given). Comes link (wish_is.Pass brief) g [] old new store after) (sym d.0)
+        (apart link (wish_is.Pass brief) given_is.Passed old new store after refl refl tt (store, refl, d.1) d.2),
   )
   comes_done link stop (wish_is.TakeNext now) given old new store after d = (
     [],
-    subst (λ (g : Given). Comes link (wish_is.TakeNext now) g [] old new store after) (sym d.1) (record {
-      pieces = [];
-      told_so = silent old new d.3;
-      heard = refl;
-      said_so = refl;
-      may = tt;
-      led = (store, refl, d.2);
-      fell = kept_counts old new d.3;
-    }),
+    subst (λ (g : Given). Comes link (wish_is.TakeNext now) g [] old new store after) (sym d.1)
+        (apart link (wish_is.TakeNext now) (given_is.Taken d.0) old new store after refl refl tt (store, refl, d.2) d.3),
   )
   comes_done link stop (wish_is.Over cause) given old new store after d = absurd d
 
@@ -237,16 +219,9 @@ module _ {D : Type 0} (tells : Bool) (story : D → Story) (faults calls : D →
     quiets = let same = ap (λ (c : Course). c.counts.quiets) ends.same in omega (arith, same);
   }
 
-  unheard : (link : ℕ) (given : Given) (old new : Course) (store : Store D) → heard_by given ≡ [] → new.talk ≡ old.talk → NoneFell old.counts new.counts → Comes link wish_is.Listen given [] old new store store
-  unheard link given old new store none same fell = record {
-    pieces = [];
-    told_so = same ∙ sym (with_more-nil old.talk);
-    heard = sym none;
-    said_so = refl;
-    may = tt;
-    led = refl;
-    fell = fell;
-  }
+  -- nothing was heard where it listened
+  silent : (link : ℕ) (given : Given) (old new : Course) (store : Store D) → heard_by given ≡ [] → new.talk ≡ old.talk → NoneFell old.counts new.counts → Comes link wish_is.Listen given [] old new store store
+  silent link given old new store none same fell = unheard link wish_is.Listen given old new store store none refl tt refl same fell
 
   comes_heard : (link : ℕ) (given : Given) (old new : Course) (store : Store D) → HearsSo old given new → Comes link wish_is.Listen given [] old new store store
   comes_heard link (given_is.Heard octets) old new store h = record {
@@ -258,11 +233,11 @@ module _ {D : Type 0} (tells : Bool) (story : D → Story) (faults calls : D →
     led = refl;
     fell = fell_same old.counts new.counts h.1;
   }
-  comes_heard link given_is.Quiet old new store h = unheard link given_is.Quiet old new store refl (ap (λ (c : Course). c.talk) h.same) (quiet_fell old new h)
-  comes_heard link given_is.End old new store h = unheard link given_is.End old new store refl (ap (λ (c : Course). c.talk) h.same) (ended_fell old new h)
-  comes_heard link given_is.Fault old new store h = unheard link given_is.Fault old new store refl (ap (λ (c : Course). c.talk) h.0.same) (fell_failed old new h.0)
-  comes_heard link given_is.Starved old new store (inl same) = unheard link given_is.Starved old new store refl (ap (λ (c : Course). c.talk) same) (kept_counts old new same)
-  comes_heard link given_is.Starved old new store (inr h) = unheard link given_is.Starved old new store refl (ap (λ (c : Course). c.talk) h.0.same) (fell_failed old new h.0)
+  comes_heard link given_is.Quiet old new store h = silent link given_is.Quiet old new store refl (ap (λ (c : Course). c.talk) h.same) (quiet_fell old new h)
+  comes_heard link given_is.End old new store h = silent link given_is.End old new store refl (ap (λ (c : Course). c.talk) h.same) (ended_fell old new h)
+  comes_heard link given_is.Fault old new store h = silent link given_is.Fault old new store refl (ap (λ (c : Course). c.talk) h.0.same) (fell_failed old new h.0)
+  comes_heard link given_is.Starved old new store (inl same) = silent link given_is.Starved old new store refl (ap (λ (c : Course). c.talk) same) (kept_counts old new same)
+  comes_heard link given_is.Starved old new store (inr h) = silent link given_is.Starved old new store refl (ap (λ (c : Course). c.talk) h.0.same) (fell_failed old new h.0)
   comes_heard link given_is.Begin old new store h = absurd h
   comes_heard link given_is.Said old new store h = absurd h
   comes_heard link given_is.SayFault old new store h = absurd h
@@ -273,9 +248,9 @@ module _ {D : Type 0} (tells : Bool) (story : D → Story) (faults calls : D →
 
   pub comes_first : (link : ℕ) (fresh stop : Bool) (given : Given) (old new : Course) (store : Store D) → BeginsWith fresh stop given old new → Comes link wish_is.Listen given [] old new store store
   comes_first link true stop given old new store b =
-      unheard link given old new store (ap heard_by b.0) (ap (λ (c : Course). c.talk) b.1) (kept_counts old new b.1)
+      silent link given old new store (ap heard_by b.0) (ap (λ (c : Course). c.talk) b.1) (kept_counts old new b.1)
   comes_first link false true given old new store b =
-      unheard link given old new store (ap heard_by b.0) (ap (λ (c : Course). c.talk) b.1) (kept_counts old new b.1)
+      silent link given old new store (ap heard_by b.0) (ap (λ (c : Course). c.talk) b.1) (kept_counts old new b.1)
   comes_first link false false given old new store b = comes_heard link given old new store b
 
   -- the talk goes on by it
