@@ -1,12 +1,11 @@
 -- How much a session has still to do, where something of it changes.
-use Rattle.std.proofs.Common.{◌≡◌, ◌∙◌, refl, sym, ap, subst, ℕ, zero, suc, ◌+◌, ◌<◌, ◌≤◌, ◌-◌, Bool, true, false, not, nat_lt, nat_le, List, ◌∷◌, length, take, drop, arith, length-drop, inl, inr}
-use Rattle.std.specs.Prelude.{Option, Some, None, IfSome, ◌⊎◌, ◌&&◌}
-use Rattle.std.proofs.lemmas.Bool.{and_parts, false≢true, ltb-true, leb-true}
-use Rattle.std.proofs.lemmas.List.{length-take-le}
+use Rattle.std.proofs.Common.{◌≡◌, ◌∙◌, refl, sym, ap, subst, ℕ, ◌+◌, ◌<◌, ◌≤◌, List, ◌∷◌, length, take, drop, arith, length-drop, inl, inr}
+use Rattle.std.specs.Prelude.{Option, None, ◌⊎◌}
+use Rattle.std.proofs.lemmas.List.{length-take}
 use Rattle.link_core.specs.Grammar.{IsGrammar}
 use Rattle.link_core.specs.declared.heard.Heard.{Heard}
 use Rattle.link_turn.specs.SessionSteps.{message_said, message_in}
-use Rattle.link_turn.specs.Weight.{one_if, count_of, weight_saying, weight_in, weight, load, weight_left, IsOwn, EndsFor, EndsItself, EndsBehind, GetsLighterBehind}
+use Rattle.link_turn.specs.Weight.{one_if, count_of, weight_saying, weight_in, weight, load, weight_left, EndsItself, EndsBehind, GetsLighterBehind}
 use Rattle.link_turn.specs.declared.end_cause.EndCause.{EndCause}
 use Rattle.link_turn.specs.declared.session.Phase.{Phase}
 use Rattle.link_turn.specs.declared.session.Phase.TheVariants.{Fresh, Listening, ComingUp, GivingBack, Taking, Leaving, Done}
@@ -16,10 +15,6 @@ use Rattle.link_turn.specs.declared.session.Saying.TheVariants as saying_is
 use Rattle.link_turn.specs.declared.session.Session.{Session}
 use Rattle.link_turn.specs.declared.submitted.Submitted.{Submitted}
 use Rattle.link_turn.specs.declared.wish.Wish.{Wish}
-
-pub count_of-le : (one : Option ℕ) → count_of one ≤ 1
-count_of-le None = omega arith
-count_of-le (Some message) = omega arith
 
 -- a message that can't be said is given back
 pub said_left : (saying : Saying) → count_of (message_said saying) < weight_saying saying
@@ -44,10 +39,6 @@ module _ {C : Type 0} where
   -- a reading of the clock weighs nothing
   pub weight-now : (session : Session C) (now : ℕ) → weight (record session { latest = now }) ≡ weight session
   weight-now session now = weight_in-now session.phase session now
-
-  -- where it ends for a cause of its own, it ends by itself
-  pub ends_itself : (cause : EndCause) (wish : Wish) (session : Session C) → EndsFor cause wish session → IsOwn cause → EndsItself wish session
-  ends_itself cause wish session ends own = subst (λ (one : Option EndCause). IfSome one IsOwn) (sym ends) own
 
   dropped_weighs : (len : ℕ) (session : Session C) → 0 < len → len ≤ length session.kept → load (record session { kept = drop len session.kept }) + 8 ≤ load session
   dropped_weighs len session some within =
@@ -134,30 +125,9 @@ module _ {C : Type 0} where
       let fewer : length old.in_use.items ≡ length new.in_use.items + 1 = ap length items ∙ omega arith in
       omega (arith, all, up, fewer)
 
-  -- it goes down
-  pub down_left : (cause : EndCause) (old new : Session C) → new ≡ old → old.phase ≡ Leaving cause None → new.up ≡ true → weight (record new { up = false }) ≤ weight_left None old
-  down_left cause old new same is up =
-      let phase : new.phase ≡ Leaving cause None = ap (λ (s : Session C). s.phase) same ∙ is in
-      let all : weight (record new { up = false }) ≡ length new.in_use.items + 0 + 0 + 1 = ap (λ (p : Phase). weight_in p (record new { up = false })) phase in
-      let was : one_if new.up ≡ 1 = ap one_if up in
-      let left : weight_left None new ≡ weight_left None old = ap (weight_left None) same in
-      omega (arith, all, was, left)
-
 -- a frame has an octet
 pub frame_some : (hears : List ℕ → Heard → Type 0) (holds : ℕ → Type 0) (most len : ℕ) (octets : List ℕ) (heard : Heard) → IsGrammar hears holds most → hears (take len octets) heard → 0 < len
-frame_some hears holds most zero octets heard grammar is = let some : 0 < length (take zero octets) = grammar.some (take zero octets) heard is in absurd (omega (arith, some, length-take-le zero octets (omega arith)))
-frame_some hears holds most (suc len) octets heard grammar is = omega arith
-
--- who has just said something wasn't silent
-pub spoke_now : (up : Bool) (keepalive now last : ℕ) → (up && (nat_lt 0 keepalive && nat_le keepalive (now - last))) ≡ true → last ≡ now → ⊥
-spoke_now up keepalive now last silent spoke =
-    let rest = (and_parts up (nat_lt 0 keepalive && nat_le keepalive (now - last)) silent).1 in
-    let parts = and_parts (nat_lt 0 keepalive) (nat_le keepalive (now - last)) rest in
-    let some = ltb-true 0 keepalive parts.0 in
-    let long = leb-true keepalive (now - last) parts.1 in
-    absurd (omega (arith, some, long, spoke))
-
--- the store may be asked
-pub may_take_so : (up searched : Bool) (len window : ℕ) → (up && (not searched && nat_lt len window)) ≡ true → (len < window) × (searched ≡ false)
-may_take_so up true len window may = absurd (false≢true (and_parts (not true) (nat_lt len window) (and_parts up (not true && nat_lt len window) may).1).0)
-may_take_so up false len window may = (ltb-true len window (and_parts up (nat_lt len window) may).1, refl)
+frame_some hears holds most len octets heard grammar is =
+    let some : 0 < length (take len octets) = grammar.some (take len octets) heard is in
+    let within = length-take len octets in
+    omega (arith, some, within)

@@ -176,6 +176,9 @@ impl<C: LinkCore> Session<C> {
     /// Begin comes first. Behind Listen comes Heard, Quiet, End, Fault, Starved or Stop; behind Say Said, SayFault or Starved; behind Perform
     /// Answered, behind Pass Passed, behind TakeNext Taken; behind Over nothing. Whatever steps led to where the session is, they go on by what was
     /// given, and where it is over they are the talk of a link.
+    ///
+    /// By each thing that it is given it has less to do, but for what it hears, so it comes to listen or to its end. The end comes of what it was
+    /// given, or is one that the session comes to by itself.
     pub fn next(&mut self, given: Given, now: u64) -> Wish
         requires session { spec.IsSession C.tags C.next_tag C.holds self.old }
         requires fits { spec.Fits C.kind self.old given now }
