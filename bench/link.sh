@@ -29,7 +29,7 @@ awk -v n="$count" 'BEGIN {
         for (i = 1; i < 50 && i < n; i++) to = to "+0123456"
         n -= i
         target = "/cgi-bin/sendsms?username=tester&password=foobar&from=123&to=" to "&text=hello"
-        printf "GET %s HTTP/1.1\r\nHost: h\r\n%s\r\n", target, n > 0 ? "" : "Connection: close\r\n"
+        printf "GET %s HTTP/1.1\r\nHost: h\r\n%s\r\n", target, (n > 0 ? "" : "Connection: close\r\n")
     }
 }' > "$disk/requests.http"
 
