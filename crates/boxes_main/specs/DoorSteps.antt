@@ -16,10 +16,12 @@ use Rattle.boxes_main.specs.declared.failure.Failure.{Failure}
 use Rattle.boxes_main.specs.declared.failure.Failure.TheVariants.{Session}
 use Rattle.boxes_main.specs.declared.session.SessionFault.{SessionFault}
 
--- Room for one item in each of two vectors that have none.
-pub record HasRoom {A B : Type 0} (ends : Vec A Global) (workers : Vec B Global) : Type 0 where
+-- Room for one item in each of three vectors that have none.
+pub record HasRoom {A B C : Type 0} (ends : Vec A Global) (pasts : Vec B Global) (workers : Vec C Global) : Type 0 where
   pub no_ends : ends.items ≡ []
   pub room_for_end : vec_len ends < vec_capacity ends
+  pub no_pasts : pasts.items ≡ []
+  pub room_for_past : vec_len pasts < vec_capacity pasts
   pub no_workers : workers.items ≡ []
   pub room_for_worker : vec_len workers < vec_capacity workers
 

@@ -7,11 +7,13 @@ use Rattle.boxes_main.specs.declared.command_end.SessionEnd.{SessionEnd}
 use Rattle.boxes_main.specs.declared.command_end.SessionEnd.TheVariants as ended_as
 use Rattle.boxes_main.specs.declared.command_end.WorkerEnd.{WorkerEnd}
 
--- its role, its clock, where it took one, and the ends of its sessions, in order
-pub record Worker (C : Type 0) : Type 0 where
+-- its role, its clock and its dialer, where it took one, the ends of its sessions in order, and what became of the connections that it dialled
+pub record Worker (C L : Type 0) : Type 0 where
   pub role : Role
   pub clock : Option C
+  pub dialer : Option L
   pub ends : List SessionEnd
+  pub pasts : List Past
 
 -- what is left in a house with these types
 abbrev pub worker_of : {H V D C S O E : Type 0} → WorkerEnd H V D C S O E → Worker C
