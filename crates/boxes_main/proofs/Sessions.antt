@@ -137,8 +137,8 @@ module _ {D : Type 0} (tells : Bool) (story : D → Story) (faults calls : D →
       }
 
 module _
-    {V S O E D C : Type 0} (course : O → Course) (tells : Bool) (story : D → Story) (faults calls : D → ℕ) (rules : Rules)
-    (old new : Rooms V S O E) (before after : Stock) (output : O) (store : Store D) (totals : Totals) (disk : D) (workers : List (Worker C)) where
+    {V S O E D C L : Type 0} (course : O → Course) (tells : Bool) (story : D → Story) (faults calls : D → ℕ) (rules : Rules)
+    (old new : Rooms V S O E) (before after : Stock) (output : O) (store : Store D) (totals : Totals) (disk : D) (workers : List (Worker C L)) where
   -- what a store counts was printed on the house's output
   pub shows_by : new ≡ record old { output = output } → after ≡ before
       → (status : ℕ) (failure : Option Failure) (fault : Option OutputFault) → status ≡ status_of failure → failure ≡ option_map Output fault → workers ≡ []
@@ -172,14 +172,14 @@ module _
       }
 
 module _
-    {V S O E D C : Type 0} (course : V → Course)
+    {V S O E D C L : Type 0} (course : V → Course)
     (tells : Bool) (story : D → Story) (faults calls : D → ℕ) (readings_of : C → Option (List ℕ)) (settings : Settings)
     (old mid new : Rooms V S O E) (before between after : Stock) (peer : V) (store later : Store D) (clock clock_later : C)
-    (readings : List ℕ) (deeds : List Deed) (end : HttpEnd) (disk : D) (workers : List (Worker C)) where
+    (readings : List ℕ) (deeds : List Deed) (end : HttpEnd) (disk : D) (workers : List (Worker C L)) where
   -- a session that was served on the house's visitor, with a clock of it
   pub serves_by : mid ≡ old → new ≡ record mid { visitor = peer } → between ≡ before → after ≡ between
       → (status : ℕ) (failure : Option Failure) → status ≡ status_of failure → failure ≡ option_map Session (fault_by (is_some (unsure_in later)) end)
-      → workers ≡ record { role = role_is.Http; clock = Some clock_later; ends = ended_as.Http end ∷ [] } ∷ []
+      → workers ≡ record { role = role_is.Http; clock = Some clock_later; dialer = None; ends = ended_as.Http end ∷ []; pasts = [] } ∷ []
       → IfSome (readings_of clock) (λ so_far. so_far ≡ []) → AddsAll readings (readings_of clock) (readings_of clock_later)
       → Talks settings octets_limit (course mid.visitor) (course peer) readings deeds end → Leads tells story faults calls store deeds later
       → CountsFaults (faults (disk_in store)) (faults (disk_in later)) deeds → disk ≡ disk_in later
@@ -197,9 +197,9 @@ module _
         served = λ areas word birth found told new_disk is. record {
           readings = readings;
           end = end;
-          worker = record { role = role_is.Http; clock = Some clock_later; ends = ended_as.Http end ∷ [] };
+          worker = record { role = role_is.Http; clock = Some clock_later; dialer = None; ends = ended_as.Http end ∷ []; pasts = [] };
           alone = left;
-          left = record { role = refl; clock = new_readings readings (readings_of clock) (readings_of clock_later) new_clock read; ends = refl };
+          left = record { role = refl; clock = new_readings readings (readings_of clock) (readings_of clock_later) new_clock read; no_dialer = refl; ends = refl; no_pasts = refl };
           after = disk;
           handed_back = refl;
           session = session_by tells story faults calls settings store later (course old.visitor) (course new.visitor) readings deeds end disk
