@@ -1,9 +1,22 @@
 //! One session of a link over an open store: its centre is dialled, and turns are taken until it ends.
 
+ghost use Rattle.std.specs.Prelude.{◌≡◌, ◌<◌, [], ◌∷◌, Some, IfOk, is_some, map, vec_len, vec_capacity};
+ghost use Rattle.config_groups.specs.Ranges.{IsLink, IsLogin};
+ghost use Rattle.gate_store.specs.Store.{unsure_in};
+ghost use Rattle.kn_base.specs.Course.{IsFresh as IsNewCourse};
+ghost use Rattle.link_turn.specs.Session.{IsFresh, IsNew};
+ghost use Rattle.link_turn.specs.Turn.{MayTurn, HearsNoReport};
+ghost use Rattle.link_turn.specs.declared.terms.Terms.{Terms};
+ghost use Rattle.route_rules.specs.declared.link_kind.LinkKind.TheVariants.{Smpp};
+ghost use Rattle.boxes_main.specs.DoorSteps.{HasRoom};
+ghost use Rattle.boxes_main.specs.Link.{link_fault};
+ghost use Rattle.boxes_main.specs.LinkSteps as steps;
+ghost use Rattle.boxes_main.specs.Worker.{worker_of};
+
 use crate::failure::status;
 use crate::session::Room;
 use crate::{Ended, Failure, House, Role, SessionEnd, WorkerEnd};
-use config_groups::{LinkSettings, Settings};
+use config_groups::LinkSettings;
 use gate_store::Store;
 use kn_base::{Clock, Items, Memory, Octets, Past, Peer};
 use link_core::LinkCore;
@@ -41,7 +54,9 @@ pub enum LinkFault {
 }
 
 /// What a session fails by, over a store in which an entry is unsure or none is.
-fn fault_of(is_unsure: bool, cause: EndCause) -> Option<LinkFault> {
+fn fault_of(is_unsure: bool, cause: EndCause) -> Option<LinkFault>
+    ensures { result ≡ link_fault is_unsure cause }
+{
     if is_unsure {
         return Some(LinkFault::Disk);
     }
@@ -58,17 +73,28 @@ fn fault_of(is_unsure: bool, cause: EndCause) -> Option<LinkFault> {
     }
 }
 
+/// Why a session is told to stop.
+#[derive(Clone, Copy)]
+enum Limit {
+    /// It heard so many octets, as many as may be.
+    Octets { taken: u64 },
+    /// As many turns in a row as may be heard nothing.
+    Quiets,
+}
+
 /// How far a session is: how many octets it heard, and how many turns in a row heard nothing.
 #[derive(Clone, Copy)]
-struct Course {
+struct Progress {
     taken: u64,
     quiets: u32,
 }
 
-impl Course {
+impl Progress {
     /// One turn more, in which so many octets were heard.
-    fn behind(self, heard: u64) -> Course {
-        Course {
+    fn behind(self, heard: u64) -> Progress
+        ensures { result ≡ steps.behind self heard }
+    {
+        Progress {
             taken: self.taken.saturating_add(heard),
             quiets: if heard == 0 {
                 self.quiets.saturating_add(1)
@@ -78,53 +104,57 @@ impl Course {
         }
     }
 
-    /// The end of a session that is told to stop here, where it is.
-    fn limit(self) -> Option<EndCause> {
+    /// Why a session is told to stop here, where it is.
+    fn limit(self) -> Option<Limit>
+        ensures { steps.IsLimit self result }
+    {
         if self.taken >= OCTETS_LIMIT {
-            return Some(EndCause::Budget { taken: self.taken });
+            return Some(Limit::Octets { taken: self.taken });
         }
         if self.quiets >= QUIETS_LIMIT {
-            return Some(EndCause::QuietLimit { turns: self.quiets });
+            return Some(Limit::Quiets);
         }
         None
     }
 }
 
-/// Takes the last turn of a session that is told to stop, and gives its end.
-fn stop<C: LinkCore + Drop, D: Disk, P: Peer, K: Clock>(
-    alloc: Global,
-    session: &mut Session<C>,
-    store: &mut Store<D>,
-    peer: &mut P,
-    clock: &mut K,
-    limit: EndCause,
-) -> EndCause {
-    match turn_solo(alloc, session, store, peer, clock, true) {
-        Turned::Ended(EndCause::Closed) => limit,
-        Turned::Ended(cause) => cause,
-        Turned::On { .. } => limit,
+/// The end of a session that was told to stop, or wasn't, by the end that its last turn came to.
+fn end_of(limit: Option<Limit>, cause: EndCause) -> EndCause
+    ensures { result ≡ steps.end_of limit cause }
+{
+    match (limit, cause) {
+        (Some(Limit::Octets { taken }), EndCause::Closed) => EndCause::Budget { taken },
+        (Some(Limit::Quiets), EndCause::Closed) => EndCause::QuietLimit {
+            turns: QUIETS_LIMIT,
+        },
+        _ => cause,
     }
 }
 
-/// Takes turns until a session ends, or is told to.
+/// Takes turns of a session that has begun until it ends. It is told to stop where it has heard as many octets as may be, or nothing for as
+/// many turns as may be.
 fn take_turns<C: LinkCore + Drop, D: Disk, P: Peer, K: Clock>(
     alloc: Global,
     session: &mut Session<C>,
     store: &mut Store<D>,
     peer: &mut P,
     clock: &mut K,
-) -> EndCause {
-    let mut course = Course {
+) -> EndCause
+    requires may { MayTurn C.tags C.next_tag C.holds C.kind C.hears C.refuses C.said D.tells D.story session.old store.old (K.latest clock.old) }
+    requires begun { ¬ IsFresh session.old }
+    requires no_reports { HearsNoReport C.hears }
+    ensures { steps.EndsBehind C.hears C.refuses C.said D.tells D.story D.faults D.calls session.old (P.course peer.old) (P.course peer.new)
+        (K.readings clock.old) (K.readings clock.new) store.old store.new result }
+{
+    let mut progress = Progress {
         taken: 0,
         quiets: 0,
     };
     loop {
-        if let Some(limit) = course.limit() {
-            return stop(alloc, session, store, peer, clock, limit);
-        }
-        match turn_solo(alloc, session, store, peer, clock, false) {
-            Turned::On { heard } => course = course.behind(heard),
-            Turned::Ended(cause) => return cause,
+        let limit = progress.limit();
+        match turn_solo(alloc, session, store, peer, clock, limit.is_some()) {
+            Turned::On { heard } => progress = progress.behind(heard),
+            Turned::Ended(cause) => return end_of(limit, cause),
         }
     }
 }
@@ -136,7 +166,13 @@ fn talk<C: LinkCore + Drop, D: Disk, P: Peer, K: Clock>(
     store: &mut Store<D>,
     peer: &mut P,
     clock: &mut K,
-) -> EndCause {
+) -> EndCause
+    requires may { MayTurn C.tags C.next_tag C.holds C.kind C.hears C.refuses C.said D.tells D.story session.old store.old (K.latest clock.old) }
+    requires peer { IsNewCourse (P.course peer.old) }
+    requires no_reports { HearsNoReport C.hears }
+    ensures { steps.Holds C.hears C.refuses C.said D.tells D.story D.faults D.calls session.old (P.course peer.old) (P.course peer.new)
+        (K.readings clock.old) (K.readings clock.new) store.old store.new result }
+{
     match turn_solo(alloc, session, store, peer, clock, false) {
         Turned::On { .. } => take_turns(alloc, session, store, peer, clock),
         Turned::Ended(cause) => cause,
@@ -158,7 +194,13 @@ fn hold<C: LinkCore + Drop, D: Disk, L: Dialer, K: Clock>(
     dialer: &mut L,
     peer: L::P,
     clock: &mut K,
-) -> Held {
+) -> Held
+    requires may { MayTurn C.tags C.next_tag C.holds C.kind C.hears C.refuses C.said D.tells D.story session store.old (K.latest clock.old) }
+    requires peer { IsNewCourse (L.P.course peer) }
+    requires no_reports { HearsNoReport C.hears }
+    ensures { (core : C) → (terms : Terms) → IsNew core terms session → steps.HoldsWith C.hears C.refuses C.said D.tells D.story D.faults D.calls core terms
+        (K.readings clock.old) (K.readings clock.new) store.old store.new (L.dealings dialer.old) (L.dealings dialer.new) result }
+{
     let (mut session, mut peer) = (session, peer);
     let cause = talk(alloc, &mut session, store, &mut peer, clock);
     Held {
@@ -174,9 +216,14 @@ fn call<C: LinkCore + Drop, D: Disk, L: Dialer, K: Clock>(
     store: &mut Store<D>,
     dialer: &mut L,
     clock: &mut K,
-    link: &LinkSettings,
-) -> Option<Held> {
-    match dialer.dial(link.host.as_slice(), link.port) {
+    centre: &LinkSettings,
+) -> Option<Held>
+    requires may { MayTurn C.tags C.next_tag C.holds C.kind C.hears C.refuses C.said D.tells D.story session store.old (K.latest clock.old) }
+    requires no_reports { HearsNoReport C.hears }
+    ensures { (core : C) → (terms : Terms) → IsNew core terms session → steps.Calls C.hears C.refuses C.said D.tells D.story D.faults D.calls core terms centre.now
+        (K.readings clock.old) (K.readings clock.new) store.old store.new (L.dealings dialer.old) (L.dealings dialer.new) result }
+{
+    match dialer.dial(centre.host.as_slice(), centre.port) {
         Dialed::Peer(peer) => Some(hold(alloc, session, store, dialer, peer, clock)),
         Dialed::Failed | Dialed::Gone => None,
     }
@@ -186,41 +233,56 @@ fn call<C: LinkCore + Drop, D: Disk, L: Dialer, K: Clock>(
 pub(crate) fn new_session(
     alloc: Global,
     number: u32,
-    link: &LinkSettings,
-) -> Result<Session<SmppCore>, Memory> {
-    let core = SmppCore::new(alloc, link)?;
-    let smsc = Octets::from_slice(alloc, link.smsc_id.as_slice())?;
+    centre: &LinkSettings,
+) -> Result<Session<SmppCore>, Memory>
+    requires in_range { IsLink centre.now }
+    requires login { IsLogin Smpp centre.now.smsc_username centre.now.smsc_password }
+    ensures { IfOk result (steps.IsNewSession number centre.now) }
+{
+    let core = SmppCore::new(alloc, centre)?;
+    let smsc = Octets::from_slice(alloc, centre.smsc_id.as_slice())?;
     Session::new(
         alloc,
         core,
         number,
         smsc,
-        link.max_pending_submits,
-        link.wait_ack,
-        link.keepalive,
+        centre.max_pending_submits,
+        centre.wait_ack,
+        centre.keepalive,
     )
 }
 
 /// Whether an entry that was refused because the disk failed may stand all the same.
-fn is_unsure<D: Disk>(store: &Store<D>) -> bool {
+fn is_unsure<D: Disk>(store: &Store<D>) -> bool
+    ensures { result ≡ is_some (unsure_in store.now) }
+{
     store.unsure().is_some()
 }
 
 /// What went wrong in the command: no connection was made, or a session failed.
-fn failure_of(is_unsure: bool, held: &Option<Held>) -> Option<Failure> {
+fn failure_of(is_unsure: bool, held: &Option<Held>) -> Option<Failure>
+    ensures { result ≡ steps.failure_by is_unsure held.now }
+{
     match held {
         Some(held) => fault_of(is_unsure, held.cause).map(Failure::Link),
         None => Some(Failure::Undialled),
     }
 }
 
-/// Puts what a session left last.
-fn put_held(ends: &mut Vec<SessionEnd>, pasts: &mut Vec<Past>, held: Option<Held>) {
-    let Some(held) = held else {
+/// Puts what was held last.
+fn put_held(ends: &mut Vec<SessionEnd>, pasts: &mut Vec<Past>, held: Option<Held>)
+    requires no_ends { ends.old.items ≡ [] }
+    requires room_for_end { vec_len ends.old < vec_capacity ends.old }
+    requires no_pasts { pasts.old.items ≡ [] }
+    requires room_for_past { vec_len pasts.old < vec_capacity pasts.old }
+    ensures ends { ends.new.items ≡ steps.ends_by held }
+    ensures pasts { pasts.new.items ≡ steps.pasts_by held }
+{
+    let Some(Held { cause, past }) = held else {
         return;
     };
-    ends.push_reserved(SessionEnd::Link(held.cause));
-    if let Some(past) = held.past {
+    ends.push_reserved(SessionEnd::Link(cause));
+    if let Some(past) = past {
         pasts.push_reserved(past);
     }
 }
@@ -232,7 +294,10 @@ fn leave<H: House>(
     clock: H::C,
     dialer: H::Di,
     held: Option<Held>,
-) -> Items<WorkerEnd<H>> {
+) -> Items<WorkerEnd<H>>
+    requires { HasRoom room.ends room.pasts room.workers }
+    ensures { map worker_of result ≡ record { role = Role.Link link; clock = Some clock; dialer = Some dialer; ends = steps.ends_by held; pasts = steps.pasts_by held } ∷ [] }
+{
     let Room {
         mut ends,
         mut pasts,
@@ -249,16 +314,23 @@ fn leave<H: House>(
     Items::from_vec(workers)
 }
 
-/// Holds one session of a link over a store, and closes it.
+/// Dials the centre of a link, holds one session with it over a store, and closes the store.
 pub(crate) fn serve_link<H: House>(
     alloc: Global,
     house: &mut H,
-    settings: &Settings,
     link: u32,
+    centre: &LinkSettings,
     session: Session<SmppCore>,
     store: Store<H::D>,
     room: Room<H>,
-) -> Ended<H> {
+) -> Ended<H>
+    requires may { steps.MayBegin H.D.tells H.D.story session store }
+    requires new_one { steps.IsNewSession link centre.now session }
+    requires room { HasRoom room.ends room.pasts room.workers }
+    ensures { steps.ServesLink H.D.tells H.D.story H.D.faults H.D.calls H.C.readings H.Di.dealings link centre.now
+        (H.rooms house.old) (H.rooms house.new) (H.stock house.old) (H.stock house.new) store
+        result.status result.failure result.disk (map worker_of result.workers) }
+{
     let mut store = store;
     let (mut clock, mut dialer) = (house.clock(), house.dialer());
     let held = call(
@@ -267,7 +339,7 @@ pub(crate) fn serve_link<H: House>(
         &mut store,
         &mut dialer,
         &mut clock,
-        &settings.links.as_slice()[link as usize],
+        centre,
     );
     let failure = failure_of(is_unsure(&store), &held);
     Ended {
