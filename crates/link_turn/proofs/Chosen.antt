@@ -12,7 +12,7 @@ use Rattle.sms_record.specs.declared.sms.Sms.{Sms}
 use Rattle.link_turn.specs.Back.{IsAmong}
 use Rattle.link_turn.proofs.Uses.{among_cases, among_head, among_tail}
 
-none_among : (k : ℕ) → IsAmong k [] → ⊥
+pub none_among : (k : ℕ) → IsAmong k [] → ⊥
 none_among k among = let e : None ≡ Some k = among in cc
 
 never : (least : Fit) → is_at_least least No ≡ true → least ≢ No → ⊥

@@ -93,7 +93,7 @@ module _ {C : Type 0} (hears_so : List ℕ → Heard → Type 0) (refuses : List
   }
 
   -- what a session leaves that is over is the talk of a link
-  ended_talk : (phase : Phase) (next : Wish) (cause : EndCause) (talk : Talk) (s : Session C) → StandsIn hears_so refuses said core terms phase next talk s → next ≡ wish_is.Over cause → TalkOf talk cause
+  pub ended_talk : (phase : Phase) (next : Wish) (cause : EndCause) (talk : Talk) (s : Session C) → StandsIn hears_so refuses said core terms phase next talk s → next ≡ wish_is.Over cause → TalkOf talk cause
   ended_talk Done next cause talk s stands is =
       let both : wish_is.Over stands.0 ≡ wish_is.Over cause = sym stands.1 ∙ is in
       let same : stands.0 ≡ cause = cc in

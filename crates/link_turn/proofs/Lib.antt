@@ -12,3 +12,16 @@ pub mod Checks
 pub mod Stored
 pub mod Chosen
 pub mod Agreement
+pub mod Holding
+pub mod LoggingIn
+pub mod Doing
+pub mod Fitting
+pub mod TalkingOn
+pub mod Causing
+pub mod Falling
+pub mod Lightening
+pub mod Carrying
+pub mod Turning
+pub mod Counting
+pub mod Failing
+pub mod Beginning

@@ -43,7 +43,7 @@ are_freed : (pairs : List (ℕ × Waiting)) → AreMessages (with_changes free_w
 are_freed [] are = tt
 are_freed (pair ∷ pairs) are = (are.0, are_freed pairs are.1)
 
-hears_waiting : (kind : Kind) (smsc foreign : List ℕ) (one : Option Awaited) (state : State) → (hears kind smsc foreign one state).waiting ≡ state.waiting
+pub hears_waiting : (kind : Kind) (smsc foreign : List ℕ) (one : Option Awaited) (state : State) → (hears kind smsc foreign one state).waiting ≡ state.waiting
 hears_waiting kind smsc foreign None state = refl
 hears_waiting kind.Delivered smsc foreign (Some awaited) state = refl
 hears_waiting kind.Undelivered smsc foreign (Some awaited) state = refl

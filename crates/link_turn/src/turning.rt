@@ -8,6 +8,7 @@ ghost use Rattle.link_turn.specs.Session as spec;
 ghost use Rattle.link_turn.specs.SessionSteps as steps;
 ghost use Rattle.link_turn.specs.Turn as turn;
 ghost use Rattle.link_turn.specs.TurnSteps as doing;
+ghost use Rattle.link_turn.specs.Weight as weight;
 
 use crate::{EndCause, Given, Session, Turned, Wish};
 use gate_store::Store;
@@ -39,7 +40,7 @@ pub fn turn_solo<C: LinkCore, D: Disk, P: Peer, K: Clock>(
     ensures counts { turn.CountsTurn (spec.IsFresh session.old) stop result (P.course peer.old).counts (P.course peer.new).counts }
     ensures law { steps.Always (λ core terms talk. steps.Stands C.hears C.refuses C.said core terms Wish.Listen talk session.old
         → turn.Turning C.hears C.refuses C.said D.tells D.story D.faults D.calls core terms talk (P.course peer.old) (P.course peer.new)
-            (K.readings clock.old) (K.readings clock.new) store.old store.new result session.new) }
+        (K.readings clock.old) (K.readings clock.new) store.old store.new result session.new) }
 {
     let given = first(alloc, session.is_fresh(), peer, stop);
     let heard = octets_in(&given);
@@ -69,6 +70,16 @@ fn carry_out<C: LinkCore, D: Disk, P: Peer, K: Clock>(
     clock: &mut K,
     stop: bool,
 ) -> Option<EndCause>
+    requires wishes { doing.Wishes C.tags C.next_tag C.holds C.kind C.hears C.refuses C.said D.tells D.story first session.old store.old (K.latest clock.old) }
+    requires no_reports { turn.HearsNoReport C.hears }
+    ensures done { doing.IsDone C.tags C.next_tag C.holds C.kind C.hears C.refuses C.said D.tells D.story result session.new store.new (K.latest clock.new) }
+    ensures terms { spec.terms_of session.new ≡ spec.terms_of session.old }
+    ensures rules { rules_in store.new ≡ rules_in store.old }
+    ensures stop { doing.IsToStop stop result }
+    ensures counts { doing.CountsCause stop (weight.cause_in first session.old.phase) result (P.course peer.old).counts (P.course peer.new).counts }
+    ensures law { steps.Always (λ core terms talk. steps.Stands C.hears C.refuses C.said core terms first talk session.old
+        → doing.CarriedOn C.hears C.refuses C.said D.tells D.story D.faults D.calls core terms talk (P.course peer.old) (P.course peer.new)
+        (K.readings clock.old) (K.readings clock.new) store.old store.new result session.new) }
 {
     let mut wish = first;
     loop {
@@ -92,7 +103,7 @@ fn fulfil<D: Disk, P: Peer>(
     requires ids { HaveIds (rules_in store.old) }
     requires may { doing.MayDo store.old wish }
     ensures ok { IfOk result (λ given. doing.Does D.tells D.story D.faults D.calls link stop wish given (P.course peer.old) (P.course peer.new) store.old store.new) }
-    ensures err { IfErr result (λ end. doing.IsAtEnd stop wish end × (P.course peer.new ≡ P.course peer.old) × (store.new ≡ store.old)) }
+    ensures err { IfErr result (λ end. doing.IsEnd wish end × doing.IsToStop stop end × (P.course peer.new ≡ P.course peer.old) × (store.new ≡ store.old)) }
 {
     match wish {
         Wish::Listen => if stop { Ok(Given::Stop) } else { Err(None) },

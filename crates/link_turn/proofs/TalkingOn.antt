@@ -1,0 +1,299 @@
+-- A talk goes on, step by step and turn by turn.
+use Rattle.std.proofs.Common.{◌≡◌, ◌∙◌, refl, sym, ap, subst, ℕ, ◌+◌, ◌<◌, ◌≤◌, Bool, true, false, inl, inr, ◌⊎◌, List, [], ◌∷◌, ◌++◌, length, take, All, arith, append_assoc}
+use Rattle.std.specs.Prelude.{⊤, Option, Some, None, Result, Ok, Err, IfSome}
+use Rattle.std.proofs.lemmas.List.{append-nil}
+use Rattle.std.proofs.lemmas.List.Elements.{All-nil, All-cons, All-append}
+use Rattle.gate_store.specs.Deeds.{Performs, Passes, Takes}
+use Rattle.gate_store.specs.declared.store.Store.{Store}
+use Rattle.kn_base.specs.Clock.{Adds}
+use Rattle.kn_base.specs.Count.{Counts, Rose}
+use Rattle.kn_base.specs.Course.{Course, with_more, Fails, IsQuiet, Ends}
+use Rattle.kn_base.specs.Talk.{said_of, heard_of, SaysAll, SaysFront}
+use Rattle.kn_base.specs.declared.piece.Piece.{Piece}
+use Rattle.kn_base.specs.declared.piece.Piece.TheVariants as piece_is
+use Rattle.kn_base.proofs.Talks.{said_of-append, heard_of-append, with_more-nil, with_more-with_more}
+use Rattle.link_core.specs.declared.out.Out.{Out}
+use Rattle.store_disk.specs.Story.{Story}
+use Rattle.link_turn.specs.Session.{Talk, GoesOn, spoken_in, heard_by, spoken_by, deeds_by, MayBeCut, IsCutShort}
+use Rattle.link_turn.specs.Steps.{Deed, performed, passed, took, deeds_in}
+use Rattle.link_turn.specs.Turn.{IsReading, NoneFell, Reads, Leads, TalksOn}
+use Rattle.link_turn.specs.TurnSteps.{Does, SaysSo, HearsSo, BeginsWith}
+use Rattle.link_turn.specs.declared.given.Given.{Given}
+use Rattle.link_turn.specs.declared.given.Given.TheVariants as given_is
+use Rattle.link_turn.specs.declared.wish.Wish.{Wish}
+use Rattle.link_turn.specs.declared.wish.Wish.TheVariants as wish_is
+use Rattle.link_turn.proofs.Fitting.{Spoke, said_all, faulted, starved, spoke_so}
+
+-- ---- readings
+
+pub reads_none : (told : Option (List ℕ)) → Reads [] told told
+reads_none None = tt
+reads_none (Some xs) = (xs, refl, sym (append-nil xs))
+
+pub reads_then : (first more : List ℕ) (told between now : Option (List ℕ)) → Reads first told between → Reads more between now → Reads (first ++ more) told now
+reads_then first more told between None one two = tt
+reads_then first more told None (Some now) one two = absurd (let e : None ≡ Some two.0 = two.1 in cc)
+reads_then first more told (Some xs) (Some now) one two =
+    let both : Some xs ≡ Some two.0 = two.1 in
+    let same : two.0 ≡ xs = cc in
+    (one.0, one.1, two.2 ∙ ap (λ (front : List ℕ). front ++ more) (same ∙ one.2) ∙ append_assoc one.0 first more)
+
+-- ---- counts
+
+pub none_fell : (counts : Counts) → NoneFell counts counts
+none_fell counts = record { faults = omega arith; starved = omega arith; quiets = omega arith }
+
+pub fell_then : (a b c : Counts) → NoneFell a b → NoneFell b c → NoneFell a c
+fell_then a b c one two = record {
+  faults = omega (arith, one.faults, two.faults);
+  starved = omega (arith, one.starved, two.starved);
+  quiets = omega (arith, one.quiets, two.quiets);
+}
+
+fell_same : (a b : Counts) → b ≡ a → NoneFell a b
+fell_same a b same = subst (NoneFell a) (sym same) (none_fell a)
+
+fell_failed : (a b : Course) → Fails a b → NoneFell a.counts b.counts
+fell_failed a b fails = record {
+  faults = fails.counts.faults;
+  starved = fails.counts.starved;
+  quiets = let same = ap (λ (c : Counts). c.quiets) fails.counts.same in omega (arith, same);
+}
+
+module _ {D : Type 0} (tells : Bool) (story : D → Story) (faults calls : D → ℕ) where
+  -- deeds go on from where others led
+  pub leads_then : (link : ℕ) (a b c : Store D) (first more : List Deed) → Leads tells story faults calls link a first b → Leads tells story faults calls link b more c
+      → Leads tells story faults calls link a (more ++ first) c
+  leads_then link a b c first [] one two = subst (Leads tells story faults calls link a first) (sym two) one
+  leads_then link a b c first (performed kept outcome ∷ more) one two = (two.0, leads_then link a b two.0 first more one two.1, two.2)
+  leads_then link a b c first (passed brief ∷ more) one two = (two.0, leads_then link a b two.0 first more one two.1, two.2)
+  leads_then link a b c first (took now outcome ∷ more) one two = (two.0, leads_then link a b two.0 first more one two.1, two.2)
+
+  -- ---- nothing happened, or one thing after the other
+
+  pub talks_none : (said : Out → List ℕ) (link : ℕ) (talk : Talk) (course : Course) (told : Option (List ℕ)) (store : Store D)
+      → TalksOn tells story faults calls said link talk talk course course told told store store
+  talks_none said link talk course told store = record {
+    pieces = [];
+    readings = [];
+    deeds = [];
+    told_so = sym (with_more-nil course.talk);
+    heard = sym (append-nil talk.heard);
+    spoken = sym (append-nil (spoken_in said talk));
+    read = sym (append-nil talk.readings);
+    in_time = All-nil IsReading;
+    clock = reads_none told;
+    done = refl;
+    led = refl;
+    fell = none_fell course.counts;
+  }
+
+  pub talks_then : (said : Out → List ℕ) (link : ℕ) (talk mid later : Talk) (a b c : Course) (told between now : Option (List ℕ)) (store amid after : Store D)
+      → TalksOn tells story faults calls said link talk mid a b told between store amid → TalksOn tells story faults calls said link mid later b c between now amid after
+      → TalksOn tells story faults calls said link talk later a c told now store after
+  talks_then said link talk mid later a b c told between now store amid after one two = record {
+    pieces = one.pieces ++ two.pieces;
+    readings = one.readings ++ two.readings;
+    deeds = two.deeds ++ one.deeds;
+    told_so = two.told_so ∙ ap (λ (t : Option (List Piece)). with_more t two.pieces) one.told_so ∙ with_more-with_more a.talk one.pieces two.pieces;
+    heard = two.heard ∙ ap (λ (xs : List ℕ). xs ++ heard_of two.pieces) one.heard ∙ append_assoc talk.heard (heard_of one.pieces) (heard_of two.pieces)
+        ∙ ap (λ (xs : List ℕ). talk.heard ++ xs) (sym (heard_of-append one.pieces two.pieces));
+    spoken = two.spoken ∙ ap (λ (xs : List ℕ). xs ++ said_of two.pieces) one.spoken ∙ append_assoc (spoken_in said talk) (said_of one.pieces) (said_of two.pieces)
+        ∙ ap (λ (xs : List ℕ). spoken_in said talk ++ xs) (sym (said_of-append one.pieces two.pieces));
+    read = two.read ∙ ap (λ (xs : List ℕ). xs ++ two.readings) one.read ∙ append_assoc talk.readings one.readings two.readings;
+    in_time = All-append IsReading one.readings two.readings one.in_time two.in_time;
+    clock = reads_then one.readings two.readings told between now one.clock two.clock;
+    done = two.done ∙ ap (λ (ds : List Deed). two.deeds ++ ds) one.done ∙ sym (append_assoc two.deeds one.deeds (deeds_in talk.steps));
+    led = leads_then link store amid after one.deeds two.deeds one.led two.led;
+    fell = fell_then a.counts b.counts c.counts one.fell two.fell;
+  }
+
+  -- ---- one thing that is given
+
+  -- what doing a wish did, by what is given for it
+  pub record Comes (link : ℕ) (wish : Wish) (given : Given) (cut : List ℕ) (old new : Course) (store after : Store D) : Type 0 where
+    pub pieces : List Piece
+    pub told_so : new.talk ≡ with_more old.talk pieces
+    pub heard : heard_of pieces ≡ heard_by given
+    pub said_so : said_of pieces ≡ spoken_by wish given cut
+    pub may : MayBeCut wish given cut
+    pub led : Leads tells story faults calls link store (deeds_by wish given) after
+    pub fell : NoneFell old.counts new.counts
+
+  -- nothing happened to the peer
+  silent : (old new : Course) → new ≡ old → new.talk ≡ with_more old.talk []
+  silent old new same = ap (λ (c : Course). c.talk) same ∙ sym (with_more-nil old.talk)
+
+  kept_counts : (old new : Course) → new ≡ old → NoneFell old.counts new.counts
+  kept_counts old new same = fell_same old.counts new.counts (ap (λ (c : Course). c.counts) same)
+
+  comes_spoken : (link : ℕ) (octets : List ℕ) (given : Given) (old new : Course) (store after : Store D) → Spoke octets given old new → after ≡ store
+      → (cut : List ℕ) × Comes link (wish_is.Say octets) given cut old new store after
+  comes_spoken link octets given old new store after (said_all is all) same = (
+    [],
+    subst (λ (g : Given). Comes link (wish_is.Say octets) g [] old new store after) (sym is) (record {
+      pieces = all.pieces;
+      told_so = ap (λ (c : Course). c.talk) all.after;
+      heard = all.nothing_heard;
+      said_so = all.said;
+      may = tt;
+      led = same;
+      fell = fell_same old.counts new.counts (ap (λ (c : Course). c.counts) all.after);
+    }),
+  )
+  comes_spoken link octets given old new store after (faulted is gone front not) same =
+      let cut : List ℕ = take gone octets in (
+        cut,
+        subst (λ (g : Given). Comes link (wish_is.Say octets) g cut old new store after) (sym is) (record {
+          pieces = front.front.pieces;
+          told_so = ap (λ (c : Course). c.talk) front.fails.same ∙ ap (λ (c : Course). c.talk) front.front.after;
+          heard = front.front.nothing_heard;
+          said_so = front.front.said;
+          may = (gone, front.less, refl);
+          led = same;
+          fell = fell_then old.counts front.between.counts new.counts (fell_same old.counts front.between.counts (ap (λ (c : Course). c.counts) front.front.after)) (fell_failed front.between new front.fails);
+        }),
+      )
+  comes_spoken link octets given old new store after (starved is gone front rose) same =
+      let cut : List ℕ = take gone octets in (
+        cut,
+        subst (λ (g : Given). Comes link (wish_is.Say octets) g cut old new store after) (sym is) (record {
+          pieces = front.front.pieces;
+          told_so = ap (λ (c : Course). c.talk) front.fails.same ∙ ap (λ (c : Course). c.talk) front.front.after;
+          heard = front.front.nothing_heard;
+          said_so = front.front.said;
+          may = (gone, front.less, refl);
+          led = same;
+          fell = fell_then old.counts front.between.counts new.counts (fell_same old.counts front.between.counts (ap (λ (c : Course). c.counts) front.front.after)) (fell_failed front.between new front.fails);
+        }),
+      )
+
+  -- what came of a wish
+  pub comes_done : (link : ℕ) (stop : Bool) (wish : Wish) (given : Given) (old new : Course) (store after : Store D) → Does tells story faults calls link stop wish given old new store after
+      → (cut : List ℕ) × Comes link wish given cut old new store after
+  comes_done link stop wish_is.Listen given old new store after d = (
+    [],
+    subst (λ (g : Given). Comes link wish_is.Listen g [] old new store after) (sym d.0) (record {
+      pieces = [];
+      told_so = silent old new d.2;
+      heard = refl;
+      said_so = refl;
+      may = tt;
+      led = d.3;
+      fell = kept_counts old new d.2;
+    }),
+  )
+  comes_done link stop (wish_is.Say octets) given old new store after d = comes_spoken link octets given old new store after (spoke_so octets given old new d.0) d.1
+  comes_done link stop (wish_is.Perform kept) given old new store after d = (
+    [],
+    subst (λ (g : Given). Comes link (wish_is.Perform kept) g [] old new store after) (sym d.1) (record {
+      pieces = [];
+      told_so = silent old new d.3;
+      heard = refl;
+      said_so = refl;
+      may = tt;
+      led = (store, refl, d.2);
+      fell = kept_counts old new d.3;
+    }),
+  )
+  comes_done link stop (wish_is.Pass brief) given old new store after d = (
+    [],
+    subst (λ (g : Given). Comes link (wish_is.Pass brief) g [] old new store after) (sym d.0) (record {
+      pieces = [];
+      told_so = silent old new d.2;
+      heard = refl;
+      said_so = refl;
+      may = tt;
+      led = (store, refl, d.1);
+      fell = kept_counts old new d.2;
+    }),
+  )
+  comes_done link stop (wish_is.TakeNext now) given old new store after d = (
+    [],
+    subst (λ (g : Given). Comes link (wish_is.TakeNext now) g [] old new store after) (sym d.1) (record {
+      pieces = [];
+      told_so = silent old new d.3;
+      heard = refl;
+      said_so = refl;
+      may = tt;
+      led = (store, refl, d.2);
+      fell = kept_counts old new d.3;
+    }),
+  )
+  comes_done link stop (wish_is.Over cause) given old new store after d = absurd d
+
+  -- what a turn begins with
+
+  quiet_fell : (old new : Course) → IsQuiet old new → NoneFell old.counts new.counts
+  quiet_fell old new quiet = record {
+    faults = let same = ap (λ (c : Counts). c.faults) quiet.counts.same in omega (arith, same);
+    starved = let same = ap (λ (c : Counts). c.starved) quiet.counts.same in omega (arith, same);
+    quiets = quiet.counts.kept;
+  }
+
+  ended_fell : (old new : Course) → Ends old new → NoneFell old.counts new.counts
+  ended_fell old new ends = record {
+    faults = let same = ap (λ (c : Course). c.counts.faults) ends.same in omega (arith, same);
+    starved = let same = ap (λ (c : Course). c.counts.starved) ends.same in omega (arith, same);
+    quiets = let same = ap (λ (c : Course). c.counts.quiets) ends.same in omega (arith, same);
+  }
+
+  unheard : (link : ℕ) (given : Given) (old new : Course) (store : Store D) → heard_by given ≡ [] → new.talk ≡ old.talk → NoneFell old.counts new.counts → Comes link wish_is.Listen given [] old new store store
+  unheard link given old new store none same fell = record {
+    pieces = [];
+    told_so = same ∙ sym (with_more-nil old.talk);
+    heard = sym none;
+    said_so = refl;
+    may = tt;
+    led = refl;
+    fell = fell;
+  }
+
+  comes_heard : (link : ℕ) (given : Given) (old new : Course) (store : Store D) → HearsSo old given new → Comes link wish_is.Listen given [] old new store store
+  comes_heard link (given_is.Heard octets) old new store h = record {
+    pieces = piece_is.Heard octets ∷ [];
+    told_so = h.2;
+    heard = append-nil octets;
+    said_so = refl;
+    may = tt;
+    led = refl;
+    fell = fell_same old.counts new.counts h.1;
+  }
+  comes_heard link given_is.Quiet old new store h = unheard link given_is.Quiet old new store refl (ap (λ (c : Course). c.talk) h.same) (quiet_fell old new h)
+  comes_heard link given_is.End old new store h = unheard link given_is.End old new store refl (ap (λ (c : Course). c.talk) h.same) (ended_fell old new h)
+  comes_heard link given_is.Fault old new store h = unheard link given_is.Fault old new store refl (ap (λ (c : Course). c.talk) h.0.same) (fell_failed old new h.0)
+  comes_heard link given_is.Starved old new store (inl same) = unheard link given_is.Starved old new store refl (ap (λ (c : Course). c.talk) same) (kept_counts old new same)
+  comes_heard link given_is.Starved old new store (inr h) = unheard link given_is.Starved old new store refl (ap (λ (c : Course). c.talk) h.0.same) (fell_failed old new h.0)
+  comes_heard link given_is.Begin old new store h = absurd h
+  comes_heard link given_is.Said old new store h = absurd h
+  comes_heard link given_is.SayFault old new store h = absurd h
+  comes_heard link (given_is.Answered outcome) old new store h = absurd h
+  comes_heard link given_is.Passed old new store h = absurd h
+  comes_heard link (given_is.Taken outcome) old new store h = absurd h
+  comes_heard link given_is.Stop old new store h = absurd h
+
+  pub comes_first : (link : ℕ) (fresh stop : Bool) (given : Given) (old new : Course) (store : Store D) → BeginsWith fresh stop given old new → Comes link wish_is.Listen given [] old new store store
+  comes_first link true stop given old new store b =
+      unheard link given old new store (ap heard_by b.0) (ap (λ (c : Course). c.talk) b.1) (kept_counts old new b.1)
+  comes_first link false true given old new store b =
+      unheard link given old new store (ap heard_by b.0) (ap (λ (c : Course). c.talk) b.1) (kept_counts old new b.1)
+  comes_first link false false given old new store b = comes_heard link given old new store b
+
+  -- the talk goes on by it
+  pub talks_by : (said : Out → List ℕ) (link : ℕ) (wish : Wish) (given : Given) (now : ℕ) (cut : List ℕ) (talk later : Talk) (old new : Course) (told now_told : Option (List ℕ)) (store after : Store D)
+      → GoesOn said wish given now cut talk later → Comes link wish given cut old new store after → Adds now told now_told → IsReading now
+      → TalksOn tells story faults calls said link talk later old new told now_told store after
+  talks_by said link wish given now cut talk later old new told now_told store after goes comes adds soon = record {
+    pieces = comes.pieces;
+    readings = now ∷ [];
+    deeds = deeds_by wish given;
+    told_so = comes.told_so;
+    heard = goes.heard ∙ ap (λ (xs : List ℕ). talk.heard ++ xs) (sym comes.heard);
+    spoken = goes.spoken ∙ ap (λ (xs : List ℕ). spoken_in said talk ++ xs) (sym comes.said_so);
+    read = goes.readings;
+    in_time = All-cons IsReading now [] soon (All-nil IsReading);
+    clock = adds;
+    done = goes.deeds;
+    led = comes.led;
+    fell = comes.fell;
+  }
