@@ -3,6 +3,7 @@ pub mod Answered
 pub mod Doubts
 pub mod Ending
 pub mod Gives
+pub mod LinkKept
 pub mod LinkTurns
 pub mod OpeningLemmas
 pub mod Printed

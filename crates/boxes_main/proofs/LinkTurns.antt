@@ -1,23 +1,24 @@
 -- Turns of a link's session, one behind the other, up to its end.
 use Rattle.std.proofs.Common.{◌≡◌, ◌≤◌, ◌<◌, ◌+◌, ◌^◌, ◌-◌, ℕ, zero, suc, min, Bool, true, false, List, [], ◌∷◌, ◌++◌, length, All, Option, Some, None, inl, inr, ◌⊎◌, refl, ap, sym, ◌∙◌, append_assoc, arith, subst}
-use Rattle.std.specs.Prelude.{IfSome, is_some, ◌==◌, if◌then◌else◌}
+use Rattle.std.specs.Prelude.{IfSome, MatchOption, is_some, ◌==◌, if◌then◌else◌}
 use Rattle.std.proofs.Math.Nat.{min-le_left, le-min, min-le_right}
 use Rattle.std.proofs.lemmas.Bool.{cases_Bool}
-use Rattle.std.proofs.lemmas.List.{length-append}
-use Rattle.std.proofs.lemmas.List.Elements.{All-append}
+use Rattle.std.proofs.lemmas.List.{append-nil, length-append}
 use Rattle.kn_base.specs.Count.{Counts, no_counts, Rose, last_count}
 use Rattle.kn_base.specs.Course.{Course, with_more}
-use Rattle.kn_base.specs.Talk.{heard_of, said_of}
-use Rattle.kn_base.proofs.Talks.{heard_of-append, said_of-append, with_more-with_more}
+use Rattle.kn_base.specs.Course.{IsFresh as IsNewCourse}
+use Rattle.kn_base.specs.Talk.{heard_of, said_of, IsPastOf}
+use Rattle.kn_base.specs.declared.piece.Past.{Past}
+use Rattle.kn_base.specs.declared.piece.Piece.{Piece}
 use Rattle.gate_store.specs.Store.{IsOpen, rules_in, state_in}
 use Rattle.gate_store.specs.declared.store.Store.{Store}
 use Rattle.link_core.specs.declared.heard.Heard.{Heard}
 use Rattle.link_core.specs.declared.out.Out.{Out}
-use Rattle.link_turn.specs.Session.{Talk, no_talk, spoken_in, IsFresh, terms_of}
+use Rattle.link_turn.specs.Session.{Talk, no_talk, spoken_in, IsFresh, IsNew, terms_of}
 use Rattle.link_turn.specs.SessionSteps.{Stands, StandsIn}
-use Rattle.link_turn.specs.Steps.{Deed, performed, passed, took, deeds_in}
+use Rattle.link_turn.specs.Steps.{Deed, deeds_in}
 use Rattle.link_turn.specs.Talk.{LinkTalk}
-use Rattle.link_turn.specs.Turn.{IsOf, IsReading, Leads, NoneFell, Reads, TalksOn, Turning, CountsTurn}
+use Rattle.link_turn.specs.Turn.{IsOf, NoneFell, Turning, CountsTurn}
 use Rattle.link_turn.specs.declared.end_cause.EndCause.{EndCause}
 use Rattle.link_turn.specs.declared.end_cause.EndCause.TheVariants as end_is
 use Rattle.link_turn.specs.declared.session.Phase.{Phase}
@@ -27,58 +28,14 @@ use Rattle.link_turn.specs.declared.terms.Terms.{Terms}
 use Rattle.link_turn.specs.declared.turned.Turned.TheVariants.{On, Ended}
 use Rattle.link_turn.specs.declared.wish.Wish.{Wish}
 use Rattle.link_turn.specs.declared.wish.Wish.TheVariants as wish_is
+use Rattle.link_turn.proofs.TalkingOn.{talks_none, talks_then}
+use Rattle.peer_dialer.specs.Dealings.{Dealings, Parts}
 use Rattle.store_disk.specs.Story.{Story}
-use Rattle.boxes_main.specs.Link.{octets_limit, quiets_limit, talk_cause, RoseBy, IsCounted}
-use Rattle.boxes_main.specs.LinkSteps.{behind, end_of, remaining, IsLimit, IsOn, Talked}
+use Rattle.boxes_main.specs.Link.{octets_limit, quiets_limit, talk_cause, RoseBy, IsCounted, IsPast}
+use Rattle.boxes_main.specs.LinkSteps.{behind, end_of, remaining, IsLimit, IsOn, Talked, HoldsWith}
 use Rattle.boxes_main.specs.declared.link_session.Limit.{Limit}
 use Rattle.boxes_main.specs.declared.link_session.Limit.TheVariants.{Octets, Quiets}
 use Rattle.boxes_main.specs.declared.link_session.Progress.{Progress}
-
--- ---- one turn behind others
-
-reads_on : (xs ys : List ℕ) (a b c : Option (List ℕ)) → Reads xs a b → Reads ys b c → Reads (xs ++ ys) a c
-reads_on xs ys a b None first then_ = tt
-reads_on xs ys a None (Some c) first then_ = absurd (let e : None ≡ Some then_.0 = then_.1 in cc)
-reads_on xs ys a (Some b) (Some c) first then_ =
-    let same : b ≡ then_.0 = let e : Some b ≡ Some then_.0 = then_.1 in cc in
-    (first.0, first.1, then_.2 ∙ ap (λ x. x ++ ys) (sym same ∙ first.2) ∙ append_assoc first.0 xs ys)
-
-module _ {D : Type 0} (tells : Bool) (story : D → Story) (faults calls : D → ℕ) where
-  -- deeds behind others; the newest stand first
-  leads_on : (link : ℕ) (a b c : Store D) (xs ys : List Deed) → Leads tells story faults calls link a xs b → Leads tells story faults calls link b ys c
-      → Leads tells story faults calls link a (ys ++ xs) c
-  leads_on link a b c xs [] first then_ = subst (λ s. Leads tells story faults calls link a xs s) (sym then_) first
-  leads_on link a b c xs (performed kept outcome ∷ ys) first then_ = (then_.0, leads_on link a b then_.0 xs ys first then_.1, then_.2)
-  leads_on link a b c xs (passed brief ∷ ys) first then_ = (then_.0, leads_on link a b then_.0 xs ys first then_.1, then_.2)
-  leads_on link a b c xs (took now outcome ∷ ys) first then_ = (then_.0, leads_on link a b then_.0 xs ys first then_.1, then_.2)
-
-  none_fell : (a b c : Counts) → NoneFell a b → NoneFell b c → NoneFell a c
-  none_fell a b c first then_ =
-      let f1 = first.faults in let f2 = then_.faults in
-      let s1 = first.starved in let s2 = then_.starved in
-      let q1 = first.quiets in let q2 = then_.quiets in
-      record { faults = omega (arith, f1, f2); starved = omega (arith, s1, s2); quiets = omega (arith, q1, q2) }
-
-  -- a talk goes on in two turns
-  pub talks_on : (said : Out → List ℕ) (link : ℕ) (talk mid later : Talk) (a b c : Course) (ra rb rc : Option (List ℕ)) (sa sb sc : Store D)
-      → TalksOn tells story faults calls said link talk mid a b ra rb sa sb → TalksOn tells story faults calls said link mid later b c rb rc sb sc
-      → TalksOn tells story faults calls said link talk later a c ra rc sa sc
-  talks_on said link talk mid later a b c ra rb rc sa sb sc x y = record {
-    pieces = x.pieces ++ y.pieces;
-    readings = x.readings ++ y.readings;
-    deeds = y.deeds ++ x.deeds;
-    told_so = y.told_so ∙ ap (λ t. with_more t y.pieces) x.told_so ∙ with_more-with_more a.talk x.pieces y.pieces;
-    heard = y.heard ∙ ap (λ h. h ++ heard_of y.pieces) x.heard ∙ append_assoc talk.heard (heard_of x.pieces) (heard_of y.pieces)
-        ∙ ap (λ h. talk.heard ++ h) (sym (heard_of-append x.pieces y.pieces));
-    spoken = y.spoken ∙ ap (λ h. h ++ said_of y.pieces) x.spoken ∙ append_assoc (spoken_in said talk) (said_of x.pieces) (said_of y.pieces)
-        ∙ ap (λ h. spoken_in said talk ++ h) (sym (said_of-append x.pieces y.pieces));
-    read = y.read ∙ ap (λ r. r ++ y.readings) x.read ∙ append_assoc talk.readings x.readings y.readings;
-    in_time = All-append IsReading x.readings y.readings x.in_time y.in_time;
-    clock = reads_on x.readings y.readings ra rb rc x.clock y.clock;
-    done = y.done ∙ ap (λ d. y.deeds ++ d) x.done ∙ sym (append_assoc y.deeds x.deeds (deeds_in talk.steps));
-    led = leads_on link sa sb sc x.deeds y.deeds x.led y.led;
-    fell = none_fell a.counts b.counts c.counts x.fell y.fell;
-  }
 
 -- ---- what is counted
 
@@ -202,12 +159,12 @@ module _ {C : Type 0} (hears : List ℕ → Heard → Type 0) (refuses : List �
         → Turning tells story faults calls hears refuses said core terms on.later now next now_told next_told store after (On heard) later_session
         → IsOn hears refuses said tells story faults calls core terms first told began later_session next next_told after (behind progress heard)
     goes_on heard stop few begun counts turning =
-        let len : length turning.later.heard ≡ length on.later.heard + heard = turning.stands.2.1 in
+        let len : length turning.later.heard ≡ length on.later.heard + heard = turning.stands.2 in
         let some = on.heard in
         let least = min-le_left (progress.taken + heard) (2 ^ 64 - 1) in
         record {
           later = turning.later;
-          talks = talks_on tells story faults calls (said core) terms.link no_talk on.later turning.later first now next told now_told next_told began store after on.talks turning.talks;
+          talks = talks_then tells story faults calls (said core) terms.link no_talk on.later turning.later first now next told now_told next_told began store after on.talks turning.talks;
           stands = turning.stands.0;
           ruled = ruled ∙ on.ruled;
           heard = omega (arith, len, some, least);
@@ -233,11 +190,85 @@ module _ {C : Type 0} (hears : List ℕ → Heard → Type 0) (refuses : List �
         let heard : progress.taken ≤ length turning.later.heard = omega (arith, len, some) in
         record {
           later = turning.later;
-          talks = talks_on tells story faults calls (said core) terms.link no_talk on.later turning.later first now next told now_told next_told began store after on.talks turning.talks;
+          talks = talks_then tells story faults calls (said core) terms.link no_talk on.later turning.later first now next told now_told next_told began store after on.talks turning.talks;
           whole = at_end turning.later.heard (spoken_in (said core) turning.later) turning.later.readings (deeds_in turning.later.steps) limit cause turning.stands;
           ruled = ruled ∙ on.ruled;
           counted = counted (IsFresh session) progress limit cause turning.later.heard (spoken_in (said core) turning.later) turning.later.readings (deeds_in turning.later.steps)
               now.counts next.counts is heard on.counts on.quiets turning.talks.fell counts turning.stands;
           opened = opened;
           left = subst (λ (t : Terms). IsOf t.link [] false (state_in after)) (terms_stand on.later session on.stands) left;
+        }
+
+    -- behind a turn that goes on and isn't counted, a session goes on
+    pub goes_first : (heard : ℕ) (stop : Bool)
+        → CountsTurn (IsFresh session) stop (On heard) now.counts next.counts
+        → Turning tells story faults calls hears refuses said core terms on.later now next now_told next_told store after (On heard) later_session
+        → IsOn hears refuses said tells story faults calls core terms first told began later_session next next_told after progress
+    goes_first heard stop counts turning =
+        let len : length turning.later.heard ≡ length on.later.heard + heard = turning.stands.2 in
+        let some = on.heard in
+        record {
+          later = turning.later;
+          talks = talks_then tells story faults calls (said core) terms.link no_talk on.later turning.later first now next told now_told next_told began store after on.talks turning.talks;
+          stands = turning.stands.0;
+          ruled = ruled ∙ on.ruled;
+          heard = omega (arith, len, some);
+          counts = counts.1 ∙ ap (λ (c : Counts). record c { quiets = next.counts.quiets }) on.counts;
+          quiets = rose_kept progress.quiets now.counts.quiets next.counts.quiets on.quiets turning.talks.fell.quiets;
+        }
+
+  module _ {D : Type 0} (tells : Bool) (story : D → Story) (faults calls : D → ℕ) (first : Course) (told : Option (List ℕ)) (began : Store D) where
+    -- a session that hasn't begun, with a peer that has made no call
+    pub begins_on : (session : Session C) → IsNew core terms session → IsNewCourse first
+        → IsOn hears refuses said tells story faults calls core terms first told began session first told began (record { taken = 0; quiets = 0 })
+    begins_on session new new_course = record {
+      later = no_talk;
+      talks = talks_none tells story faults calls (said core) terms.link no_talk first told began;
+      stands = subst (λ (p : Phase). StandsIn hears refuses said core terms p wish_is.Listen no_talk session) (sym new.phase) (refl, refl, new);
+      ruled = refl;
+      heard = omega arith;
+      counts = new_course.counts ∙ ap (λ n. record no_counts { quiets = n }) (sym (ap (λ (c : Counts). c.quiets) new_course.counts));
+      quiets = rose_none first.counts.quiets;
+    }
+
+    -- what became of the connection, where it is told
+    past_so : (now : Course) (pieces : List Piece) (talk : Option (List Piece)) (past : Option Past) → IfSome talk (λ (so_far : List Piece). so_far ≡ [])
+        → now.talk ≡ with_more talk pieces → MatchOption past (now.talk ≡ None) (IsPastOf now) → IfSome past (IsPast pieces now.counts)
+    past_so now pieces talk None new same is = tt
+    past_so now pieces None (Some past) new same is = absurd (let e : None ≡ Some past.pieces = sym same ∙ is.pieces in cc)
+    past_so now pieces (Some so_far) (Some past) new same is =
+        let e : Some (so_far ++ pieces) ≡ Some past.pieces = sym same ∙ is.pieces in
+        let here : so_far ++ pieces ≡ past.pieces = cc in
+        (sym here ∙ ap (λ (xs : List Piece). xs ++ pieces) new, is.counts)
+
+    -- a session that was held, and whose peer was handed back
+    pub holds_by : (now : Course) (now_told : Option (List ℕ)) (store : Store D) (cause : EndCause) (past : Option Past) (before between : Dealings)
+        → IsNewCourse first → Talked hears refuses said tells story faults calls core terms first now told now_told began store cause
+        → Parts now past before between
+        → HoldsWith hears refuses said tells story faults calls core terms told now_told began store before between (record { cause = cause; past = past })
+    holds_by now now_told store cause past before between new_course talked parts =
+        let talks = talked.talks in
+        let heard : talked.later.heard ≡ heard_of talks.pieces = talks.heard in
+        let spoken : spoken_in (said core) talked.later ≡ said_of talks.pieces = talks.spoken in
+        let read : talked.later.readings ≡ talks.readings = talks.read in
+        let done : deeds_in talked.later.steps ≡ talks.deeds = talks.done ∙ append-nil talks.deeds in
+        record {
+          pieces = talks.pieces;
+          readings = talks.readings;
+          deeds = talks.deeds;
+          talks = subst (λ x. LinkTalk hears refuses (said core) terms x (said_of talks.pieces) talks.readings talks.deeds (talk_cause cause)) heard
+              (subst (λ x. LinkTalk hears refuses (said core) terms talked.later.heard x talks.readings talks.deeds (talk_cause cause)) spoken
+              (subst (λ x. LinkTalk hears refuses (said core) terms talked.later.heard (spoken_in (said core) talked.later) x talks.deeds (talk_cause cause)) read
+              (subst (λ x. LinkTalk hears refuses (said core) terms talked.later.heard (spoken_in (said core) talked.later) talked.later.readings x (talk_cause cause)) done
+              talked.whole)));
+          counts = now.counts;
+          counted = subst (λ (x : List ℕ). IsCounted cause (length x) now.counts) heard talked.counted;
+          clock = talks.clock;
+          led = talks.led;
+          ruled = talked.ruled;
+          opened = talked.opened;
+          left = talked.left;
+          past_is = past_so now talks.pieces first.talk past new_course.talk talks.told_so parts.past;
+          pasts = parts.pasts;
+          same = parts.same;
         }

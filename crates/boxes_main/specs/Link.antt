@@ -1,5 +1,5 @@
 -- What the command `link` comes to.
-use Rattle.std.specs.Prelude.{◌≡◌, ◌≢◌, ◌≤◌, ◌+◌, ◌*◌, ◌⊎◌, ◌×◌, ⊤, ℕ, min, Bool, true, false, List, [], ◌∷◌, length, take, All, slice_get, Option, Some, None, IfSome, IsSomeAnd, MatchOption, is_some, Result, Ok, Err}
+use Rattle.std.specs.Prelude.{◌≡◌, ◌≢◌, ◌≤◌, ◌+◌, ◌*◌, ◌⊎◌, ⊤, ℕ, min, Bool, true, false, List, [], ◌∷◌, ◌++◌, length, take, All, slice_get, Option, Some, None, IfSome, IsSomeAnd, MatchOption, is_some, Result, Ok, Err}
 use Rattle.std.specs.Bool.{OnTrue}
 use Rattle.kn_base.specs.Count.{Counts, Rose, last_count}
 use Rattle.kn_base.specs.Talk.{heard_of, said_of, counts_of}
@@ -11,7 +11,7 @@ use Rattle.gate_entries.specs.declared.recorded.Recorded.{Recorded}
 use Rattle.gate_store.specs.Entries.{state_of}
 use Rattle.gate_store.specs.Reopening.{MayReopen, MayStandFor}
 use Rattle.gate_store.specs.Store.{rules_in, state_in, unsure_in, disk_in}
-use Rattle.gate_store.specs.declared.store.Store as store
+use Rattle.gate_store.specs.declared.store.Store.{Store as Stored}
 use Rattle.link_core.specs.declared.out.Out.{Out}
 use Rattle.link_turn.specs.Steps.{Deed}
 use Rattle.link_turn.specs.Talk.{LinkTalk}
@@ -163,8 +163,8 @@ module _ {D : Type 0} (tells : Bool) (story : D → Story) (faults calls : D →
     pub birth : ℕ
     pub entries : List Recorded
     pub found : IsFound tells areas word rules birth entries
-    pub opened : store.Store D
-    pub closed : store.Store D
+    pub opened : Stored D
+    pub closed : Stored D
     pub ruled : rules_in opened ≡ rules
     pub began : state_in opened ≡ state_of rules entries
     pub led : Leads tells story faults calls number opened deeds closed
@@ -235,26 +235,8 @@ module _ {D C L : Type 0} (tells : Bool) (story : D → Story) (faults calls : D
     pub kept : IsKept tells story faults calls rules number areas word [] after None
 
 module _
-    {V S O E D C L : Type 0} (files : S → Option (List (List ℕ × List ℕ))) (shelf_faults : S → ℕ)
-    (tells : Bool) (story : D → Story) (faults calls : D → ℕ) (readings_of : C → Option (List ℕ)) (dealings : L → Dealings) where
-  -- The link was chosen, the store stood open, on the house's disk under the name that it says, and a session was held over it.
-  pub record Holds
-      (words : Option (List ℕ × List ℕ)) (old new : Rooms V S O E) (stock : Stock) (workers : List (Worker C L)) (disk : Option D) (fault : Option LinkFault) : Type 0 where
-    pub settings : Settings
-    pub number : ℕ
-    pub centre : LinkSettings
-    pub chosen : IsChosen files shelf_faults words old.shelf new.shelf settings number centre
-    pub held : IsHeld tells story faults calls readings_of dealings settings.rules number centre (stock.disks settings.core.store_file) stock.word workers disk fault
-
-  -- The same, but no connection was made.
-  pub record DialsNone
-      (words : Option (List ℕ × List ℕ)) (old new : Rooms V S O E) (stock : Stock) (workers : List (Worker C L)) (disk : Option D) : Type 0 where
-    pub settings : Settings
-    pub number : ℕ
-    pub centre : LinkSettings
-    pub chosen : IsChosen files shelf_faults words old.shelf new.shelf settings number centre
-    pub undialled : IsUndialled tells story faults calls readings_of dealings settings.rules number centre (stock.disks settings.core.store_file) stock.word workers disk
-
+    {S D : Type 0} (files : S → Option (List (List ℕ × List ℕ))) (shelf_faults : S → ℕ)
+    (tells : Bool) (story : D → Story) (faults calls : D → ℕ) where
   -- Why no store stands open, by what went wrong: the words are none of the command's; the configuration was refused, has no link with the id, or
   -- one of a protocol that isn't built, or names no store; or its store wasn't opened on the house's disk under that name, or there was no memory for
   -- it and the session.
@@ -276,11 +258,32 @@ module _
   IsNotLinked words old new stock disk (Link fault) = ⊥
   IsNotLinked words old new stock disk (Output fault) = ⊥
 
+module _
+    {V S O E D C L : Type 0} (files : S → Option (List (List ℕ × List ℕ))) (shelf_faults : S → ℕ)
+    (tells : Bool) (story : D → Story) (faults calls : D → ℕ) (readings_of : C → Option (List ℕ)) (dealings : L → Dealings) where
+  -- The link was chosen, the store stood open, on the house's disk under the name that it says, and a session was held over it.
+  pub record Holds
+      (words : Option (List ℕ × List ℕ)) (old new : Rooms V S O E) (stock : Stock) (workers : List (Worker C L)) (disk : Option D) (fault : Option LinkFault) : Type 0 where
+    pub settings : Settings
+    pub number : ℕ
+    pub centre : LinkSettings
+    pub chosen : IsChosen files shelf_faults words old.shelf new.shelf settings number centre
+    pub held : IsHeld tells story faults calls readings_of dealings settings.rules number centre (stock.disks settings.core.store_file) stock.word workers disk fault
+
+  -- The same, but no connection was made.
+  pub record DialsNone
+      (words : Option (List ℕ × List ℕ)) (old new : Rooms V S O E) (stock : Stock) (workers : List (Worker C L)) (disk : Option D) : Type 0 where
+    pub settings : Settings
+    pub number : ℕ
+    pub centre : LinkSettings
+    pub chosen : IsChosen files shelf_faults words old.shelf new.shelf settings number centre
+    pub undialled : IsUndialled tells story faults calls readings_of dealings settings.rules number centre (stock.disks settings.core.store_file) stock.word workers disk
+
   -- No store stood open, nothing was dialled, and no worker left anything.
   pub record LinksNone
       (words : Option (List ℕ × List ℕ)) (old new : Rooms V S O E) (stock : Stock) (workers : List (Worker C L)) (disk : Option D) (failure : Failure) : Type 0 where
     pub no_worker : workers ≡ []
-    pub cause : IsNotLinked words old.shelf new.shelf stock disk failure
+    pub cause : IsNotLinked files shelf_faults tells story faults calls words old.shelf new.shelf stock disk failure
 
   -- what the command comes to, by what went wrong
   abbrev pub ComesToLink : (words : Option (List ℕ × List ℕ)) → Rooms V S O E → Rooms V S O E → Stock → List (Worker C L) → Option D → Option Failure → Type 0

@@ -1,5 +1,6 @@
 -- The steps of `link`. No public clause cites these.
-use Rattle.std.specs.Prelude.{◌≡◌, ◌≢◌, ◌≤◌, ◌<◌, ◌+◌, ◌-◌, ◌*◌, ◌^◌, ◌⊎◌, ◌×◌, ◌==◌, ⊤, ℕ, min, Bool, true, false, if◌then◌else◌, List, [], ◌∷◌, length, Option, Some, None, IfSome, MatchOption, is_some, option_map, option_map_or, slice_get, Ok}
+use Rattle.std.specs.Prelude.{◌≡◌, ◌≢◌, ◌≤◌, ◌<◌, ◌+◌, ◌-◌, ◌*◌, ◌^◌, ◌⊎◌, ◌==◌, ⊤, ℕ, min, Bool, true, false, if◌then◌else◌, List, [], ◌∷◌, length, Option, Some, None, IfSome, MatchOption, is_some, option_map, slice_get, Ok}
+use Rattle.std.specs.Option.{option_map_or}
 use Rattle.kn_base.specs.Count.{Counts, no_counts, Rose}
 use Rattle.kn_base.specs.Course.{Course}
 use Rattle.kn_base.specs.Talk.{heard_of, said_of}
@@ -9,7 +10,7 @@ use Rattle.config_groups.specs.Ranges.{AreSettings}
 use Rattle.config_groups.specs.declared.settings.Settings.{Settings}
 use Rattle.config_groups.specs.declared.settings.link_settings.LinkSettings.{LinkSettings}
 use Rattle.gate_store.specs.Store.{IsOpen, IsOpened, rules_in, state_in, unsure_in}
-use Rattle.gate_store.specs.declared.store.Store as store
+use Rattle.gate_store.specs.declared.store.Store.{Store as Stored}
 use Rattle.link_core.specs.declared.heard.Heard.{Heard}
 use Rattle.link_core.specs.declared.out.Out.{Out}
 use Rattle.link_turn.specs.Session.{Talk, no_talk, spoken_in, IsNew, IsSession}
@@ -36,7 +37,8 @@ use Rattle.store_disk.specs.Story.{Story}
 use Rattle.boxes_main.specs.Failure.{status_of}
 use Rattle.boxes_main.specs.House.{Rooms, Stock, MakesFor, IsToldWord}
 use Rattle.boxes_main.specs.Link.{octets_limit, quiets_limit, talk_cause, RoseBy, IsCounted, link_fault, terms_for, HasNone, IsFirst, IsPast, IsHeld, IsUndialled, ComesToLink}
-use Rattle.boxes_main.specs.Opening.{IsHouseDisk, IsNoStore, Reads}
+use Rattle.boxes_main.specs.Opening.{IsHouseDisk, IsNoStore}
+use Rattle.boxes_main.specs.Opening.{Reads as ReadsFiles}
 use Rattle.boxes_main.specs.Worker.{Worker}
 use Rattle.boxes_main.specs.declared.command_end.SessionEnd.{SessionEnd}
 use Rattle.boxes_main.specs.declared.command_end.SessionEnd.TheVariants as ended_as
@@ -93,8 +95,8 @@ module _
     (tells : Bool) (story : D → Story) (faults calls : D → ℕ) where
   -- A session goes on that began over a store and with a peer, which were so then.
   pub record IsOn
-      (core : C) (terms : Terms) (first : Course) (told : Option (List ℕ)) (began : store.Store D)
-      (session : Session C) (now : Course) (now_told : Option (List ℕ)) (store : store.Store D) (progress : Progress) : Type 0 where
+      (core : C) (terms : Terms) (first : Course) (told : Option (List ℕ)) (began : Stored D)
+      (session : Session C) (now : Course) (now_told : Option (List ℕ)) (store : Stored D) (progress : Progress) : Type 0 where
     pub later : Talk
     pub talks : TalksOn tells story faults calls (said core) terms.link no_talk later first now told now_told began store
     pub stands : Stands hears refuses said core terms Listen later session
@@ -103,9 +105,17 @@ module _
     pub counts : now.counts ≡ record no_counts { quiets = now.counts.quiets }
     pub quiets : RoseBy progress.quiets 0 now.counts.quiets
 
+  -- Whatever it began with, it went on from there.
+  abbrev pub KeepsOn : Session C → (now : Course) → (now_told : Option (List ℕ)) → Stored D → Progress
+      → Session C → (next : Course) → (next_told : Option (List ℕ)) → Stored D → Progress → Type 0
+  KeepsOn session now now_told store progress later_session next next_told after later_progress =
+      (core : C) (terms : Terms) (first : Course) (told : Option (List ℕ)) (began : Stored D)
+      → IsOn core terms first told began session now now_told store progress
+      → IsOn core terms first told began later_session next next_told after later_progress
+
   -- It was held from its beginning to its end.
   pub record Talked
-      (core : C) (terms : Terms) (first now : Course) (told now_told : Option (List ℕ)) (began store : store.Store D) (cause : EndCause) : Type 0 where
+      (core : C) (terms : Terms) (first now : Course) (told now_told : Option (List ℕ)) (began store : Stored D) (cause : EndCause) : Type 0 where
     pub later : Talk
     pub talks : TalksOn tells story faults calls (said core) terms.link no_talk later first now told now_told began store
     pub whole : LinkTalk hears refuses (said core) terms later.heard (spoken_in (said core) later) later.readings (deeds_in later.steps) (talk_cause cause)
@@ -115,20 +125,20 @@ module _
     pub left : IsOf terms.link [] false (state_in store)
 
   -- Whatever it began with, it went on from there to its end.
-  abbrev pub EndsBehind : Session C → (now later : Course) → (now_told later_told : Option (List ℕ)) → (store after : store.Store D) → EndCause → Type 0
+  abbrev pub EndsBehind : Session C → (now later : Course) → (now_told later_told : Option (List ℕ)) → (store after : Stored D) → EndCause → Type 0
   EndsBehind session now later now_told later_told store after cause =
-      (core : C) (terms : Terms) (first : Course) (told : Option (List ℕ)) (began : store.Store D)
+      (core : C) (terms : Terms) (first : Course) (told : Option (List ℕ)) (began : Stored D)
       → IsOn core terms first told began session now now_told store (record { taken = 0; quiets = 0 })
       → Talked core terms first later told later_told began after cause
 
   -- A session that hasn't begun was held with a peer that has made no call.
-  abbrev pub Holds : Session C → (now later : Course) → (now_told later_told : Option (List ℕ)) → (store after : store.Store D) → EndCause → Type 0
+  abbrev pub Holds : Session C → (now later : Course) → (now_told later_told : Option (List ℕ)) → (store after : Stored D) → EndCause → Type 0
   Holds session now later now_told later_told store after cause =
       (core : C) (terms : Terms) → IsNew core terms session → Talked core terms now later now_told later_told store after cause
 
   -- The same, and the peer was handed back to its dialer.
   pub record HoldsWith
-      (core : C) (terms : Terms) (told now_told : Option (List ℕ)) (store after : store.Store D) (before now : Dealings) (held : Held) : Type 0 where
+      (core : C) (terms : Terms) (told now_told : Option (List ℕ)) (store after : Stored D) (before now : Dealings) (held : Held) : Type 0 where
     pub pieces : List Piece
     pub readings : List ℕ
     pub deeds : List Deed
@@ -145,7 +155,7 @@ module _
     pub same : now ≡ record before { pasts = now.pasts }
 
   -- nothing was dialled: the count of failed dials rose, or the dialer has no peers; and nothing was done
-  pub record CallsNone (told now_told : Option (List ℕ)) (store after : store.Store D) (before now : Dealings) : Type 0 where
+  pub record CallsNone (told now_told : Option (List ℕ)) (store after : Stored D) (before now : Dealings) : Type 0 where
     pub cause : Rose before.faults now.faults ⊎ (now.left ≡ Some 0)
     pub unread : now_told ≡ told
     pub undone : after ≡ store
@@ -153,7 +163,7 @@ module _
 
   -- A centre was dialled, and a session was held with it, or no connection was made.
   pub record Calls
-      (core : C) (terms : Terms) (centre : LinkSettings) (told now_told : Option (List ℕ)) (store after : store.Store D) (before now : Dealings) (held : Option Held) : Type 0 where
+      (core : C) (terms : Terms) (centre : LinkSettings) (told now_told : Option (List ℕ)) (store after : Stored D) (before now : Dealings) (held : Option Held) : Type 0 where
     pub dials : Adds (asked_for centre.host centre.port) before.dials now.dials
     pub between : Dealings
     pub stays : Stays before.pasts between.pasts
@@ -179,7 +189,7 @@ pub record IsNewSession (number : ℕ) (centre : LinkSettings) (session : Sessio
   pub sound : IsSession last_tag next_tag (λ tag. tag < 2 ^ 32) session
 
 -- it may have its first turn over a store
-abbrev pub MayBegin : {D : Type 0} → (tells : Bool) → (D → Story) → Session BindFields → store.Store D → Type 0
+abbrev pub MayBegin : {D : Type 0} → (tells : Bool) → (D → Story) → Session BindFields → Stored D → Type 0
 MayBegin tells story session store = MayTurn last_tag next_tag (λ tag. tag < 2 ^ 32) Smpp Hears Refuses smpp.said tells story session store 0
 
 -- the first link with the id stands there
@@ -215,7 +225,7 @@ ChoosesNone settings id failure = ⊥
 -- the configuration was read, and a link of it chosen
 abbrev pub IsChosenIn : {S : Type 0} → (S → Option (List (List ℕ × List ℕ))) → (S → ℕ) → (name id : List ℕ) → S → S → Settings → (number : ℕ) → Type 0
 IsChosenIn files shelf_faults name id old new settings number =
-    AreSettings settings × Reads files shelf_faults name old new (Ok settings) × Chooses settings id number
+    AreSettings settings × ReadsFiles files shelf_faults name old new (Ok settings) × Chooses settings id number
 
 module _
     {V S O E D C L : Type 0} (tells : Bool) (story : D → Story) (faults calls : D → ℕ) (readings_of : C → Option (List ℕ)) (dealings : L → Dealings) where
@@ -229,7 +239,7 @@ module _
 
   -- A centre was dialled over a store that stood open, and the store was closed.
   pub record ServesLink
-      (number : ℕ) (centre : LinkSettings) (old new : Rooms V S O E) (before after : Stock) (store : store.Store D)
+      (number : ℕ) (centre : LinkSettings) (old new : Rooms V S O E) (before after : Stock) (store : Stored D)
       (status : ℕ) (failure : Option Failure) (disk : Option D) (workers : List (Worker C L)) : Type 0 where
     pub others : new ≡ old
     pub stock : after ≡ before

@@ -125,19 +125,28 @@ fn link_row(fault: &LinkFault) -> (u8, Line)
         LinkFault::Budget => (7, Line::Text(BUDGET_SPENT)),
         LinkFault::Full => (8, Line::Text(b"boxes: store: full\n")),
         LinkFault::Memory => (9, Line::Text(OUT_OF_MEMORY)),
-        LinkFault::LoginRefused { code } => {
-            (10, counted(b"boxes: link: login refused ", u64::from(*code)))
-        }
-        LinkFault::BadFrame { at } => (10, counted(b"boxes: link: bad frame at ", *at)),
-        LinkFault::NoReply { tag } => (10, counted(b"boxes: link: no reply to ", u64::from(*tag))),
+        LinkFault::LoginRefused { code } => (
+            10,
+            Line::Counted {
+                words: b"boxes: link: login refused ",
+                number: u64::from(*code),
+            },
+        ),
+        LinkFault::BadFrame { at } => (
+            10,
+            Line::Counted {
+                words: b"boxes: link: bad frame at ",
+                number: *at,
+            },
+        ),
+        LinkFault::NoReply { tag } => (
+            10,
+            Line::Counted {
+                words: b"boxes: link: no reply to ",
+                number: u64::from(*tag),
+            },
+        ),
     }
-}
-
-/// The line of some words and a number.
-fn counted(words: &'static [u8], number: u64) -> Line<'static>
-    ensures { result ≡ Line.Counted words number }
-{
-    Line::Counted { words, number }
 }
 
 /// The status that the program ends with, and the line for standard error.
@@ -226,8 +235,7 @@ fn give_line<S: Sink>(errors: &mut S, line: Line) -> Result<(), Cut>
         }
         Line::Counted { words, number } => {
             let mut numbers = Buffer::new();
-            give_two(errors, words, numbers.format(number).as_bytes())?;
-            give(errors, b"\n")
+            give_parts(errors, words, numbers.format(number).as_bytes(), b"", b"")
         }
     }
 }

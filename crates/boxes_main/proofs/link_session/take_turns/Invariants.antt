@@ -1,0 +1,22 @@
+use Rattle.std.proofs.Common.{◌≡◌, ℕ, List, Option}
+use Rattle.kn_base.specs.Course.{Course}
+use Rattle.gate_store.specs.declared.store.Store.{Store}
+use Rattle.link_turn.specs.Session.{IsFresh}
+use Rattle.link_turn.specs.Turn.{MayTurn}
+use Rattle.boxes_main.specs.LinkSteps.{KeepsOn, remaining}
+use Rattle.boxes_main.proofs.link_session.take_turns.Given as goal
+
+-- the session may have a turn, and whatever it began with, it goes on from there
+abbrev pub invariant-loop-session : goal.invariant-loop-session
+invariant-loop-session g l =
+    let course = g.P.Meter.course in
+    let readings = g.K.Clock.readings in record {
+      may : MayTurn g.C.tags g.C.next_tag g.C.holds g.C.kind g.C.hears g.C.refuses g.C.said g.D.Disk.tells g.D.Disk.story l.session l.store (g.K.Clock.latest l.clock);
+      begun : ¬ IsFresh l.session;
+      on : KeepsOn g.C.hears g.C.refuses g.C.said g.D.Disk.tells g.D.Disk.story g.D.Disk.faults g.D.Disk.calls
+          l.initial.session (course l.initial.peer) (readings l.initial.clock) l.initial.store l.initial.progress
+          l.session (course l.peer) (readings l.clock) l.store l.progress;
+    }
+
+abbrev pub decreases-loop-session : goal.decreases-loop-session
+decreases-loop-session g l = remaining l.progress
