@@ -3,8 +3,11 @@ pub mod Answered
 pub mod Doubts
 pub mod Ending
 pub mod Gives
+pub mod LinkEnding
 pub mod LinkKept
+pub mod LinkServing
 pub mod LinkTurns
+pub mod NoReports
 pub mod OpeningLemmas
 pub mod Printed
 pub mod Sessions

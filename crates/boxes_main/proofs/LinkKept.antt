@@ -3,6 +3,7 @@ use Rattle.std.proofs.Common.{◌≡◌, ◌≤◌, ◌+◌, ◌*◌, ◌⊎◌,
 use Rattle.std.specs.Prelude.{IfSome}
 use Rattle.std.specs.Bool.{OnTrue}
 use Rattle.std.proofs.lemmas.List.{append-nil}
+use Rattle.kn_base.specs.Count.{Rose}
 use Rattle.gate_entries.specs.declared.passing.Passing.TheVariants.{Took}
 use Rattle.gate_entries.specs.declared.recorded.Recorded.{Recorded}
 use Rattle.gate_model.specs.Fold.{does, recorded}
@@ -13,7 +14,7 @@ use Rattle.gate_model.specs.State.{State}
 use Rattle.gate_model.specs.declared.reply.Refusal.{Refusal}
 use Rattle.gate_model.specs.declared.reply.Refusal.TheVariants as refusal_is
 use Rattle.gate_model.specs.declared.reply.Reply.{Reply}
-use Rattle.gate_store.specs.Deeds.{Performs, Passes, Takes, TakesNext, TakesMessage, Withholds, LeavesUnsure, is_by_disk, put_behind}
+use Rattle.gate_store.specs.Deeds.{Performs, Passes, Takes, TakesNext, TakesMessage, Withholds, CountsFault, LeavesUnsure, is_by_disk, put_behind}
 use Rattle.gate_store.specs.Entries.{state_of}
 use Rattle.gate_store.specs.Reopening.{Reopens, ReopensTo, MayReopen, MayReopenIn, MayStandFor}
 use Rattle.gate_store.specs.Store.{IsStore, IsOpened, birth_in, disk_in, rules_in, state_in, unsure_in}
@@ -169,6 +170,28 @@ module _ {D : Type 0} (tells : Bool) (story : D → Story) (faults calls : D →
   now_doubt deeds deed before now kept (Err refusal_is.Memory) records asked failed doubt leaves =
       subst (λ (u : Option Recorded). IfSome u (IsInDoubt rules link (deed ∷ deeds))) (sym leaves) (still_doubt deeds deed before records doubt)
 
+  -- where an entry is unsure, the disk's count rose
+  rose_by : (before now : ℕ) → Rose before now → Rose 0 now
+  rose_by before now rose = omega (arith, rose)
+
+  rose_on : (unsure : Option Recorded) (before now : ℕ) → now ≡ before → IfSome unsure (λ _. Rose 0 before) → IfSome unsure (λ _. Rose 0 now)
+  rose_on unsure before now same was = subst (λ n. IfSome unsure (λ _. Rose 0 n)) (sym same) was
+
+  rose_any : (unsure : Option Recorded) (now : ℕ) → Rose 0 now → IfSome unsure (λ _. Rose 0 now)
+  rose_any None now rose = tt
+  rose_any (Some kept) now rose = rose
+
+  rose_now : (before now : Option Recorded) (kept : Recorded) (outcome : Result Reply Refusal) (old new : ℕ) → IfSome before (λ _. Rose 0 old)
+      → LeavesUnsure before kept outcome now → CountsFault (is_by_disk outcome) old new → IfSome now (λ _. Rose 0 new)
+  rose_now before now kept (Ok reply) old new was leaves counts = subst (λ (u : Option Recorded). IfSome u (λ _. Rose 0 new)) (sym leaves) tt
+  rose_now before now kept (Err refusal_is.Disk) old new was leaves counts = rose_any now new (rose_by old new counts.0)
+  rose_now before now kept (Err (refusal_is.NoRoute part)) old new was leaves counts =
+      subst (λ (u : Option Recorded). IfSome u (λ _. Rose 0 new)) (sym leaves) (rose_on before old new counts was)
+  rose_now before now kept (Err (refusal_is.Full held limit)) old new was leaves counts =
+      subst (λ (u : Option Recorded). IfSome u (λ _. Rose 0 new)) (sym leaves) (rose_on before old new counts was)
+  rose_now before now kept (Err refusal_is.Memory) old new was leaves counts =
+      subst (λ (u : Option Recorded). IfSome u (λ _. Rose 0 new)) (sym leaves) (rose_on before old new counts was)
+
   -- a stop in the call of a deed
   in_call : (entries : List Recorded) (deeds : List Deed) (deed : Deed) (ruled : Rules) (state : State) (unsure : Option Recorded) (kept : Recorded) → ruled ≡ rules
       → settle state ≡ state_of rules (entries ++ recorded_in rules link deeds) → IfSome unsure (IsInDoubt rules link deeds) → Asks rules link deed kept
@@ -209,6 +232,7 @@ module _ {D : Type 0} (tells : Bool) (story : D → Story) (faults calls : D →
       pub holds : IsStore tells story store birth (entries ++ recorded_in rules link deeds)
       pub doubt : IfSome (unsure_in store) (IsInDoubt rules link deeds)
       pub amid : OnTrue tells (LeavesOnly first (story (disk_in store)) (ReopensAmid rules link entries deeds))
+      pub rose : IfSome (unsure_in store) (λ _. Rose 0 (faults (disk_in store)))
       pub bounded : calls (disk_in store) ≤ made + 6 * length deeds
 
     more_entries : (deeds : List Deed) (deed : Deed) (es : List Recorded) → recorded_by rules link deed ≡ es
@@ -228,6 +252,8 @@ module _ {D : Type 0} (tells : Bool) (story : D → Story) (faults calls : D →
           amid = told_leaves_weaker tells first (story (disk_in new)) (ReopensAmid rules link entries deeds) (ReopensAmid rules link entries (deed ∷ deeds))
               (still_amid entries deeds deed)
               (subst (λ (d : D). OnTrue tells (LeavesOnly first (story d) (ReopensAmid rules link entries deeds))) (sym stays.disk) was.amid);
+          rose = subst (λ (d : D). IfSome (unsure_in new) (λ _. Rose 0 (faults d))) (sym stays.disk)
+              (subst (λ (u : Option Recorded). IfSome u (λ _. Rose 0 (faults (disk_in old)))) (sym stays.unsure) was.rose);
           bounded = omega (arith, fewer, same);
         }
 
@@ -248,6 +274,7 @@ module _ {D : Type 0} (tells : Bool) (story : D → Story) (faults calls : D →
               (told_leaves_weaker tells (story (disk_in old)) (story (disk_in new)) (MayReopenIn (rules_in old) (state_in old) (unsure_in old) moves.kept)
               (ReopensAmid rules link entries (deed ∷ deeds))
               (in_call entries deeds deed (rules_in old) (state_in old) (unsure_in old) moves.kept was.ruled settled was.doubt moves.asked) moves.does_.stops);
+          rose = rose_now (unsure_in old) (unsure_in new) moves.kept moves.outcome (faults (disk_in old)) (faults (disk_in new)) was.rose moves.does_.unsure moves.does_.counted;
           bounded = omega (arith, fewer, one);
         }
 
@@ -287,6 +314,7 @@ module _ {D : Type 0} (tells : Bool) (story : D → Story) (faults calls : D →
               doubt = tt;
               reopens = subst (λ es. ReopensTo rules (state_of rules es) image) (sym (append-nil is.entries)) reopens;
             }) (opened_stops tells story faults calls areas found rules birth opened new_disk is);
+        rose = subst (λ (u : Option Recorded). IfSome u (λ _. Rose 0 (faults (disk_in opened)))) (sym is.sure) tt;
         bounded = let few = opened_calls tells story faults calls areas found rules birth opened new_disk is in omega (arith, few);
       } in
       let behind = behind_all (birth_in opened) is.entries (untold areas) 20 deeds opened closed begun led in
@@ -306,6 +334,7 @@ module _ {D : Type 0} (tells : Bool) (story : D → Story) (faults calls : D →
         back = same;
         unsure_is = refl;
         doubt = behind.doubt;
+        rose = subst (λ (d : D). IfSome (unsure_in closed) (λ _. Rose 0 (faults d))) (sym same) behind.rose;
         stands = closes_as (birth_in opened) all behind.holds;
         stops = told_weaker tells _ _
             (λ reopens image here. alike_may rules (state_in closed) (state_of rules all) (unsure_in closed) image settled

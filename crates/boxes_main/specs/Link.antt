@@ -172,6 +172,7 @@ module _ {D : Type 0} (tells : Bool) (story : D → Story) (faults calls : D →
     pub back : disk ≡ disk_in closed
     pub unsure_is : unsure ≡ unsure_in closed
     pub doubt : IfSome unsure (IsInDoubt rules number deeds)
+    pub rose : IfSome unsure (λ _. Rose 0 (faults disk))
     pub stands : OnTrue tells ((image : Areas) → IsImage (story disk) image → MayStandFor birth (entries ++ recorded_in rules number deeds) unsure image)
     pub stops : OnTrue tells ((image : Areas) → IsImage (story disk) image → MayReopen rules (state_of rules (entries ++ recorded_in rules number deeds)) unsure image)
     pub amid : OnTrue tells (LeavesOnly (untold areas) (story disk) (ReopensAmid rules number entries deeds))

@@ -228,7 +228,7 @@ IsChosenIn files shelf_faults name id old new settings number =
     AreSettings settings × ReadsFiles files shelf_faults name old new (Ok settings) × Chooses settings id number
 
 module _
-    {V S O E D C L : Type 0} (tells : Bool) (story : D → Story) (faults calls : D → ℕ) (readings_of : C → Option (List ℕ)) (dealings : L → Dealings) where
+    {D C L : Type 0} (tells : Bool) (story : D → Story) (faults calls : D → ℕ) (readings_of : C → Option (List ℕ)) (dealings : L → Dealings) where
   -- what was served, by what went wrong
   abbrev pub ServedSo : Rules → (number : ℕ) → LinkSettings → Areas → Option ℕ → List (Worker C L) → Option D → Option Failure → Type 0
   ServedSo rules number centre areas word workers disk None = IsHeld tells story faults calls readings_of dealings rules number centre areas word workers disk None
@@ -237,6 +237,15 @@ module _
   ServedSo rules number centre areas word workers disk (Some Undialled) = IsUndialled tells story faults calls readings_of dealings rules number centre areas word workers disk
   ServedSo rules number centre areas word workers disk (Some failure) = ⊥
 
+  -- what came of opening the store of settings and dialling the centre of a link, by what went wrong
+  abbrev pub ChosenSo : Settings → (number : ℕ) → LinkSettings → Stock → List (Worker C L) → Option D → Option Failure → Type 0
+  ChosenSo settings number centre stock workers disk (Some (Store fault)) =
+      (workers ≡ []) × IsNoStore tells story faults calls (stock.disks settings.core.store_file) settings.rules disk fault
+  ChosenSo settings number centre stock workers disk failure =
+      ServedSo settings.rules number centre (stock.disks settings.core.store_file) stock.word workers disk failure
+
+module _
+    {V S O E D C L : Type 0} (tells : Bool) (story : D → Story) (faults calls : D → ℕ) (readings_of : C → Option (List ℕ)) (dealings : L → Dealings) where
   -- A centre was dialled over a store that stood open, and the store was closed.
   pub record ServesLink
       (number : ℕ) (centre : LinkSettings) (old new : Rooms V S O E) (before after : Stock) (store : Stored D)
@@ -247,14 +256,7 @@ module _
     pub back : is_some disk ≡ true
     pub served : (rules : Rules) (areas : Areas) (word : Option ℕ) (birth : ℕ) (found : D) → IsToldWord word birth
         → IsHouseDisk tells story faults calls areas found → IsOpened tells story faults calls found rules birth store
-        → ServedSo rules number centre areas word workers disk failure
-
-  -- what came of opening the store of settings and dialling the centre of a link, by what went wrong
-  abbrev pub ChosenSo : Settings → (number : ℕ) → LinkSettings → Stock → List (Worker C L) → Option D → Option Failure → Type 0
-  ChosenSo settings number centre stock workers disk (Some (Store fault)) =
-      (workers ≡ []) × IsNoStore tells story faults calls (stock.disks settings.core.store_file) settings.rules disk fault
-  ChosenSo settings number centre stock workers disk failure =
-      ServedSo settings.rules number centre (stock.disks settings.core.store_file) stock.word workers disk failure
+        → ServedSo tells story faults calls readings_of dealings rules number centre areas word workers disk failure
 
   -- The store of settings was opened, and the centre of a link dialled over it; or it wasn't.
   pub record ServesChosen
@@ -263,7 +265,7 @@ module _
     pub others : new ≡ old
     pub right : status ≡ status_of failure
     pub made : MakesFor disk before after
-    pub so : (centre : LinkSettings) → IsLinked settings number centre → ChosenSo settings number centre before workers disk failure
+    pub so : (centre : LinkSettings) → IsLinked settings number centre → ChosenSo tells story faults calls readings_of dealings settings number centre before workers disk failure
 
 module _
     {V S O E D C L : Type 0} (files : S → Option (List (List ℕ × List ℕ))) (shelf_faults : S → ℕ)

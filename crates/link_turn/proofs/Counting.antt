@@ -17,7 +17,7 @@ use Rattle.link_turn.specs.declared.turned.Turned.{Turned}
 use Rattle.link_turn.specs.declared.turned.Turned.TheVariants.{On, Ended}
 use Rattle.link_turn.specs.declared.wish.Wish.{Wish}
 use Rattle.link_turn.proofs.Causing.{fault_rose}
-use Rattle.link_turn.proofs.Turning.{IsTurned}
+use Rattle.link_turn.proofs.Turns.{IsTurned}
 
 same_counts : (old new : Counts) → new ≡ old → new ≡ record old { quiets = new.quiets }
 same_counts old new same = subst (λ (n : Counts). n ≡ record old { quiets = n.quiets }) (sym same) refl

@@ -21,7 +21,7 @@ pub mod Causing
 pub mod Falling
 pub mod Lightening
 pub mod Carrying
-pub mod Turning
+pub mod Turns
 pub mod Counting
 pub mod Failing
 pub mod Beginning

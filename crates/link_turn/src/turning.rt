@@ -39,7 +39,7 @@ pub fn turn_solo<C: LinkCore, D: Disk, P: Peer, K: Clock>(
     ensures rules { rules_in store.new ≡ rules_in store.old }
     ensures counts { turn.CountsTurn (spec.IsFresh session.old) stop result (P.course peer.old).counts (P.course peer.new).counts }
     ensures law { steps.Always (λ core terms talk. steps.Stands C.hears C.refuses C.said core terms Wish.Listen talk session.old
-        → turn.Turning C.hears C.refuses C.said D.tells D.story D.faults D.calls core terms talk (P.course peer.old) (P.course peer.new)
+        → turn.Turning D.tells D.story D.faults D.calls C.hears C.refuses C.said core terms talk (P.course peer.old) (P.course peer.new)
         (K.readings clock.old) (K.readings clock.new) store.old store.new result session.new) }
 {
     let given = first(alloc, session.is_fresh(), peer, stop);
