@@ -1,6 +1,6 @@
 -- A session that hasn't begun may have a turn over a store that was just opened.
 use Rattle.std.proofs.Common.{◌≡◌, ◌∙◌, refl, sym, ap, subst, ℕ, zero, suc, ◌<◌, ◌≤◌, Bool, false, List, [], ◌∷◌, length, All, arith}
-use Rattle.std.specs.Prelude.{Some, None, slice_get}
+use Rattle.std.specs.Prelude.{Option, Some, None, slice_get}
 use Rattle.std.proofs.lemmas.List.Elements.{All-nil}
 use Rattle.gate_model.specs.Gate.{HaveIds}
 use Rattle.gate_store.specs.Store.{IsOpen, IsOpened, birth_in, rules_in, state_in}

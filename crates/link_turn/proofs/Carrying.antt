@@ -91,7 +91,7 @@ module _ {C D : Type 0} (tells : Bool) (story : D → Story) (faults calls : D �
       (subst (λ (up : Bool). IsOf terms.link (held_in all) up (state_in after)) (sym (up_is later.steps ∙ ap up_in deeds)) now)
 
   -- a session that read the clock has begun
-  begun_in : (now : ℕ) (readings : List ℕ) (next : Wish) (later : Talk) (s : Session C) → later.readings ≡ readings ++ now ∷ [] → Stands hears_so refuses said core terms next later s → ¬ IsFresh s
+  pub begun_in : (now : ℕ) (readings : List ℕ) (next : Wish) (later : Talk) (s : Session C) → later.readings ≡ readings ++ now ∷ [] → Stands hears_so refuses said core terms next later s → ¬ IsFresh s
   begun_in now readings next later s read stands fresh =
       let f = subst (λ p. StandsIn hears_so refuses said core terms p next later s) fresh stands in
       not_nil readings now (sym read ∙ ap (λ (t : Talk). t.readings) f.1)

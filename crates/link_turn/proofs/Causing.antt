@@ -57,7 +57,7 @@ stays stop before now cause old mid new counts is same =
     (subst (λ (c : Counts). CountsCause stop before (Some cause) old c) (sym same) counts)
 
 -- the peer's count of faults rose
-fault_rose : (a b : Course) → Fails a b → ¬ Rose a.counts.starved b.counts.starved → Rose a.counts.faults b.counts.faults
+pub fault_rose : (a b : Course) → Fails a b → ¬ Rose a.counts.starved b.counts.starved → Rose a.counts.faults b.counts.faults
 fault_rose a b fails not =
     elim fails.counts.cause [
       | inl fault ↦ fault
@@ -132,3 +132,8 @@ module _ {C D : Type 0} (tells : Bool) (story : D → Story) (faults calls : D �
       → CountsCause stop before (cause_in wish s.phase) start old.counts → EndsBy s given next after → CountsCause stop before (cause_in next after.phase) start new.counts
   moves link stop wish given talk s after next before start old new store later stands does_ counts ends =
       moves_in link stop s.phase wish given talk s after next before start old new store later refl stands does_ counts ends
+
+-- nothing was counted yet
+pub counts_none : (stop : Bool) (cause : Option EndCause) (counts : Counts) → CountsCause stop cause cause counts counts
+counts_none stop None counts = (refl, refl)
+counts_none stop (Some cause) counts = inl (refl, refl)

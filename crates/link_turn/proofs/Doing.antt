@@ -180,17 +180,29 @@ may_record_due store link smsc (say out) time kept is good in_time leased none =
 may_record_due store link smsc (over cause) time kept is good in_time leased none = absurd (let e : None ≡ Some kept = is in cc)
 may_record_due store link smsc left time kept is good in_time leased none = absurd (let e : None ≡ Some kept = is in cc)
 
-module _ {C D : Type 0} (hears_so : List ℕ → Heard → Type 0) (refuses : List ℕ → ℕ → ℕ → Type 0) (said : C → Out → List ℕ) (core : C) (terms : Terms) where
+module _ {C : Type 0} (hears_so : List ℕ → Heard → Type 0) (refuses : List ℕ → ℕ → ℕ → Type 0) (said : C → Out → List ℕ) (core : C) (terms : Terms) where
   newest_heard : (recording : Recording) (steps : List Step) → IsToRecord hears_so refuses said core terms recording steps → (heard : Heard) × (before : List Step) × (steps ≡ hears heard ∷ before)
   newest_heard (recording_is.End message) (hears heard ∷ before) is = (heard, before, refl)
+  newest_heard (recording_is.End message) [] is = absurd is
+  newest_heard (recording_is.End message) (says out now ∷ before) is = absurd is
+  newest_heard (recording_is.End message) (records kept outcome ∷ before) is = absurd is
+  newest_heard (recording_is.End message) (passes brief ∷ before) is = absurd is
+  newest_heard (recording_is.End message) (takes now outcome ∷ before) is = absurd is
+  newest_heard (recording_is.End message) (leaves brief ∷ before) is = absurd is
   newest_heard (recording_is.Report tag) (hears heard ∷ before) is = (heard, before, refl)
+  newest_heard (recording_is.Report tag) [] is = absurd is
+  newest_heard (recording_is.Report tag) (says out now ∷ before) is = absurd is
+  newest_heard (recording_is.Report tag) (records kept outcome ∷ before) is = absurd is
+  newest_heard (recording_is.Report tag) (passes brief ∷ before) is = absurd is
+  newest_heard (recording_is.Report tag) (takes now outcome ∷ before) is = absurd is
+  newest_heard (recording_is.Report tag) (leaves brief ∷ before) is = absurd is
   newest_heard (recording_is.Message tag) (hears heard ∷ before) is = (heard, before, refl)
-  newest_heard recording [] is = absurd is
-  newest_heard recording (says out now ∷ before) is = absurd is
-  newest_heard recording (records kept outcome ∷ before) is = absurd is
-  newest_heard recording (passes brief ∷ before) is = absurd is
-  newest_heard recording (takes now outcome ∷ before) is = absurd is
-  newest_heard recording (leaves brief ∷ before) is = absurd is
+  newest_heard (recording_is.Message tag) [] is = absurd is
+  newest_heard (recording_is.Message tag) (says out now ∷ before) is = absurd is
+  newest_heard (recording_is.Message tag) (records kept outcome ∷ before) is = absurd is
+  newest_heard (recording_is.Message tag) (passes brief ∷ before) is = absurd is
+  newest_heard (recording_is.Message tag) (takes now outcome ∷ before) is = absurd is
+  newest_heard (recording_is.Message tag) (leaves brief ∷ before) is = absurd is
 
   no_report_due : (recording : Recording) (steps : List Step) (octets rest : List ℕ) → HearsNoReport hears_so → IsToRecord hears_so refuses said core terms recording steps
       → AreFrames hears_so octets (heards_in steps) rest → (foreign : List ℕ) (kind : Kind) (text : List ℕ) → due steps ≡ report foreign kind text → ⊥
@@ -202,7 +214,7 @@ module _ {C D : Type 0} (hears_so : List ℕ → Heard → Type 0) (refuses : Li
       let f = frame_of hears_so octets (heards_in n.1) rest n.0 frames' in
       none f.0 r.0 foreign kind text (subst (hears_so f.0) r.1 f.1)
 
-  pub may_record : (store : Store D) (recording : Recording) (kept : Recorded) (talk : Talk) (session : Session C) (up : Bool) → HearsNoReport hears_so
+  pub may_record : {D : Type 0} (store : Store D) (recording : Recording) (kept : Recorded) (talk : Talk) (session : Session C) (up : Bool) → HearsNoReport hears_so
       → Records hears_so refuses said core terms recording kept talk session → IsEntry kept → All IsReading talk.readings
       → IsOf terms.link (held talk.steps) up (state_in store) → MayRecord store kept × IsOfLink kept
   may_record store recording kept talk session up none r good all of =
@@ -214,11 +226,11 @@ module _ {C D : Type 0} (hears_so : List ℕ → Heard → Type 0) (refuses : Li
 
   -- ---- what is to pass
 
-  may_return : (store : Store D) (messages : List ℕ) (up : Bool) (message : ℕ) → IsOf terms.link messages up (state_in store) → IsAmong message messages
+  may_return : {D : Type 0} (store : Store D) (messages : List ℕ) (up : Bool) (message : ℕ) → IsOf terms.link messages up (state_in store) → IsAmong message messages
       → MayPass (rules_in store) (state_in store) (Returned message)
   may_return store messages up message of among = held_is_leased terms.link message messages up (state_in store) of among
 
-  may_go_down : (tells : Bool) (story : D → Story) (store : Store D) (messages : List ℕ) (up : Bool) (link : ℕ) → IsOpen tells story store → IsOf terms.link messages up (state_in store)
+  may_go_down : {D : Type 0} (tells : Bool) (story : D → Story) (store : Store D) (messages : List ℕ) (up : Bool) (link : ℕ) → IsOpen tells story store → IsOf terms.link messages up (state_in store)
       → link ≡ terms.link → up ≡ true → messages ≡ [] → MayPass (rules_in store) (state_in store) (Down link)
   may_go_down tells story store messages up link open_ of same is none =
       subst (λ (l : ℕ). MayPass (rules_in store) (state_in store) (Down l)) (sym same) (
@@ -227,7 +239,7 @@ module _ {C D : Type 0} (hears_so : List ℕ → Heard → Type 0) (refuses : Li
             (λ k leased. none_among k (subst (IsAmong k) none ((of.leased k).0 leased))),
       )
 
-  may_leave : (tells : Bool) (story : D → Story) (store : Store D) (brief : Passing) (steps : List Step) → IsOpen tells story store → IsOf terms.link (held steps) (is_up steps) (state_in store)
+  may_leave : {D : Type 0} (tells : Bool) (story : D → Story) (store : Store D) (brief : Passing) (steps : List Step) → IsOpen tells story store → IsOf terms.link (held steps) (is_up steps) (state_in store)
       → MayLeave terms brief steps → MayPass (rules_in store) (state_in store) brief × IsOfThis terms.link brief
   may_leave tells story store (passing.Returned message) steps open_ of may = (may_return store (held steps) (is_up steps) message of may, tt)
   may_leave tells story store (passing.Down link) steps open_ of may =
@@ -250,10 +262,10 @@ module _ {C D : Type 0} (hears_so : List ℕ → Heard → Type 0) (refuses : Li
   IsOne (wish_is.TakeNext now) = ⊤
   IsOne (wish_is.Over cause) = ⊤
 
-  abbrev May : Store D → Wish → Type 0
+  abbrev May : {D : Type 0} → Store D → Wish → Type 0
   May store wish = MayDo store wish × IsOne wish
 
-  may_in : (tells : Bool) (story : D → Story) (store : Store D) (phase : Phase) (wish : Wish) (talk : Talk) (session : Session C) → HearsNoReport hears_so
+  may_in : {D : Type 0} (tells : Bool) (story : D → Story) (store : Store D) (phase : Phase) (wish : Wish) (talk : Talk) (session : Session C) → HearsNoReport hears_so
       → StandsIn hears_so refuses said core terms phase wish talk session → MayBeRecorded wish → All IsReading talk.readings → IsReading session.latest → IsOpen tells story store
       → IsOf terms.link (held talk.steps) (is_up talk.steps) (state_in store) → May store wish
   may_in tells story store Fresh wish talk session none stands good all soon open_ of = subst (May store) (sym stands.0) (tt, tt)
@@ -261,7 +273,7 @@ module _ {C D : Type 0} (hears_so : List ℕ → Heard → Type 0) (refuses : Li
   may_in tells story store (phase_is.Saying saying) wish talk session none stands good all soon open_ of = subst (May store) (sym stands.1) (tt, tt)
   may_in tells story store (phase_is.Recording recording) wish talk session none stands good all soon open_ of =
       subst (May store) (sym stands.1)
-      (may_record store recording stands.0 talk session (is_up talk.steps) none stands.2 (subst MayBeRecorded stands.1 good) all of)
+      (may_record store recording stands.0 talk session (is_up talk.steps) none stands.2 (subst MayBeRecorded stands.1 good).0 all of)
   may_in tells story store ComingUp wish talk session none stands good all soon open_ of =
       subst (May store) (sym stands.0)
       (of.is_up ∙ ap Some (comes_up_down terms talk.steps stands.1.keeps.agrees.each stands.1.due_is), refl)
@@ -272,7 +284,7 @@ module _ {C D : Type 0} (hears_so : List ℕ → Heard → Type 0) (refuses : Li
       subst (May store) (sym stands.1) (may_leave tells story store stands.0 talk.steps open_ of stands.2.agrees.each.0)
   may_in tells story store Done wish talk session none stands good all soon open_ of = subst (May store) (sym stands.1) (tt, tt)
 
-  pub may_do : (tells : Bool) (story : D → Story) (store : Store D) (wish : Wish) (talk : Talk) (session : Session C) → HearsNoReport hears_so
+  pub may_do : {D : Type 0} (tells : Bool) (story : D → Story) (store : Store D) (wish : Wish) (talk : Talk) (session : Session C) → HearsNoReport hears_so
       → Stands hears_so refuses said core terms wish talk session → MayBeRecorded wish → All IsReading talk.readings → IsReading session.latest → IsOpen tells story store
       → IsOf terms.link (held talk.steps) (is_up talk.steps) (state_in store) → May store wish
   may_do tells story store wish talk session none stands good all soon open_ of = may_in tells story store session.phase wish talk session none stands good all soon open_ of

@@ -54,10 +54,10 @@ one_without message waiting (pair ∷ pairs) found free =
           rw other (omega (arith, rest))
     ]
 
-taking : ℕ → Waiting → Waiting
+abbrev taking : ℕ → Waiting → Waiting
 taking link waiting = record waiting { lease = Some link }
 
-freeing : Waiting → Waiting
+abbrev freeing : Waiting → Waiting
 freeing waiting = record waiting { lease = None }
 
 fewer_taken : (link message : ℕ) (pairs : List (ℕ × Waiting)) → free_in (with_change message (taking link) pairs) ≤ free_in pairs
@@ -161,7 +161,7 @@ module _ {D : Type 0} (tells : Bool) (story : D → Story) (faults calls : D →
   pub free_passed : (old new : Store D) (link : ℕ) (brief : Passing) → IsOpen tells story old → IsOfThis link brief → Passes tells story faults calls old brief new
       → free_of new ≤ free_of old + freed_by brief
   free_passed old new link brief open_ is done =
-      subst (λ (s : State). free_in s.waiting ≤ free_of old + freed_by brief) (sym done.state) (passed_free link (state_in old) brief (in_order tells story faults calls old open_) is)
+      subst (λ (s : State). free_in s.waiting ≤ free_of old + freed_by brief) (sym done.state) (passed_free link (state_in old) brief (in_order tells story old open_) is)
 
   free_withheld : (expired : Bool) (old new : Store D) (link now message : ℕ) (refusal : Refusal) → Withholds tells story faults calls expired old link now message refusal new
       → free_of new ≤ free_of old

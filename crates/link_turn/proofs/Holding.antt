@@ -149,10 +149,10 @@ some_there (Some x) P is = (x, refl, is)
 pub reading_is : (now : ℕ) → IsReading now → nat_lt now (2 ^ 37) ≡ true
 reading_is now below = lt-ltb now (2 ^ 37) below
 
-module _ {D : Type 0} (tells : Bool) (story : D → Story) (faults calls : D → ℕ) where
-  pub in_order : (store : Store D) → IsOpen tells story store → IsInOrder (state_in store)
-  in_order store is = is.2.whole.order
+pub in_order : {D : Type 0} (tells : Bool) (story : D → Story) (store : Store D) → IsOpen tells story store → IsInOrder (state_in store)
+in_order tells story store is = is.2.whole.order
 
+module _ {D : Type 0} (tells : Bool) (story : D → Story) (faults calls : D → ℕ) where
   pub of_performed : (old new : Store D) (link : ℕ) (messages : List ℕ) (up : Bool) (kept : Recorded) (outcome : Result Reply Refusal) → IsOfLink kept
       → IsOf link messages up (state_in old) → Performs tells story faults calls old kept outcome new → IsOf link (held_recorded kept outcome messages) up (state_in new)
   of_performed old new link messages up kept (Ok reply) is of done =
@@ -168,7 +168,7 @@ module _ {D : Type 0} (tells : Bool) (story : D → Story) (faults calls : D →
   pub next_waits : (store : Store D) (link now message : ℕ) → IsOpen tells story store → IsReading now → next (rules_in store) (state_in store) link now ≡ Some message
       → (waiting : Waiting) × (value_under message (state_in store).waiting ≡ Some waiting) × MayTake (rules_in store) (state_in store) link now waiting
   next_waits store link now message is below next_is =
-      let may = next_may_be_taken (rules_in store) (state_in store) link now message (in_order store is) (reading_is now below) next_is in
+      let may = next_may_be_taken (rules_in store) (state_in store) link now message (in_order tells story store is) (reading_is now below) next_is in
       some_there (value_under message (state_in store).waiting) (MayTake (rules_in store) (state_in store) link now) may.0
 
   of_withheld : (expired : Bool) (old new : Store D) (link now message : ℕ) (refusal : Refusal) (messages : List ℕ) (up : Bool) → IsOf link messages up (state_in old)

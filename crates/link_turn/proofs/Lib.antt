@@ -25,3 +25,4 @@ pub mod Turns
 pub mod Counting
 pub mod Failing
 pub mod Beginning
+pub mod Weighing

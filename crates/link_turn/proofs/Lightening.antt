@@ -47,7 +47,7 @@ module _ {C : Type 0} where
   at_most : (s : Session C) (state : State) → to_do s state ≤ 3 * free_in state.waiting + weight s
   at_most s state = at_most_in s.phase s state
 
-  taken_lighter : (outcome : Result (Option Taken) Refusal) (s after : Session C) → GetsLighterByTaken outcome s after → weight after < weight s + 3 * taken_by outcome
+  taken_lighter : (outcome : Result (Option Taken) Refusal) (s after : Session C) → GetsLighterByTaken outcome (weight s) (weight after) → weight after < weight s + 3 * taken_by outcome
   taken_lighter (Ok None) s after lighter = omega (arith, lighter)
   taken_lighter (Ok (Some taken)) s after lighter = omega (arith, lighter)
   taken_lighter (Err refusal) s after lighter = omega (arith, lighter)
@@ -110,13 +110,13 @@ module _ {C D : Type 0} (tells : Bool) (story : D → Story) (faults calls : D �
   falls_in link stop ComingUp wish given talk more s after next old new store later pe stands does_ one open_ soon lighter ends then_ =
       let d = subst (λ (w : Wish). Does tells story faults calls link stop w given old new store later) stands.0 does_ in
       let mine = subst (IsOne hears_so refuses said core terms) stands.0 one in
-      let light = subst (λ (p : Phase). GetsLighterBehind p s after) pe (subst (λ (g : Given). GetsLighter s g after) d.0 lighter) in
+      let light = subst (λ (p : Phase). GetsLighterBehind p (weight s) (weight after)) pe (subst (λ (g : Given). GetsLighter s g after) d.0 lighter) in
       let free = free_passed tells story faults calls store later terms.link (Up terms.link) open_ mine d.1 in
       falls_by s after (state_in store) (state_in later) 0 (omega (arith, light)) (omega (arith, free))
   falls_in link stop (GivingBack message) wish given talk more s after next old new store later pe stands does_ one open_ soon lighter ends then_ =
       let d = subst (λ (w : Wish). Does tells story faults calls link stop w given old new store later) stands.0 does_ in
       let mine = subst (IsOne hears_so refuses said core terms) stands.0 one in
-      let light = subst (λ (p : Phase). GetsLighterBehind p s after) pe (subst (λ (g : Given). GetsLighter s g after) d.0 lighter) in
+      let light = subst (λ (p : Phase). GetsLighterBehind p (weight s) (weight after)) pe (subst (λ (g : Given). GetsLighter s g after) d.0 lighter) in
       let free = free_passed tells story faults calls store later terms.link (Returned message) open_ mine d.1 in
       falls_by s after (state_in store) (state_in later) 1 (omega (arith, light)) (omega (arith, free))
   falls_in link stop Taking wish given talk more s after next old new store later pe stands does_ one open_ soon lighter ends then_ =
@@ -127,7 +127,7 @@ module _ {C D : Type 0} (tells : Bool) (story : D → Story) (faults calls : D �
       omega (arith, light, free, most)
   falls_in link stop (Leaving cause one_) wish given talk more s after next old new store later pe stands does_ one open_ soon lighter ends then_ =
       let d = subst (λ (w : Wish). Does tells story faults calls link stop w given old new store later) stands.1 does_ in
-      let light = subst (λ (p : Phase). GetsLighterBehind p s after) pe (subst (λ (g : Given). GetsLighter s g after) d.0 lighter) in
+      let light = subst (λ (p : Phase). GetsLighterBehind p (weight s) (weight after)) pe (subst (λ (g : Given). GetsLighter s g after) d.0 lighter) in
       let for_ = subst (λ (p : Phase). EndsBehind p next after) pe (subst (λ (g : Given). EndsBy s g next after) d.0 ends) in
       let least = leaves_in after.phase next cause more after (state_in later) then_ for_ in
       omega (arith, light, least)

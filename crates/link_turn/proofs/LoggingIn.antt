@@ -58,7 +58,7 @@ suits_login : (login : Option Asked) (tag code : ℕ) → Suits (due_by_login lo
 suits_login None tag code = tt
 suits_login (Some asked) tag code =
     elim (cases_Bool (asked.tag == tag)) [
-      | inl same ↦ rw (same, same) (suits_code code ((None ≡ None) × ¬ (Some asked ≡ None)) (refl, λ e. cc))
+      | inl same ↦ rw same (suits_code code ((None ≡ None) × ¬ (Some asked ≡ None)) (refl, λ e. cc))
       | inr differs ↦ rw differs tt
     ]
 

@@ -1,8 +1,14 @@
 -- Times that are readings, and frames that are cut off what was heard.
-use Rattle.std.proofs.Common.{◌∙◌, refl, ap, ℕ, inl, inr, List, [], ◌∷◌, ◌++◌, append_assoc}
+use Rattle.std.proofs.Common.{◌∙◌, refl, ap, ℕ, ◌<◌, ◌^◌, inl, inr, List, [], ◌∷◌, ◌++◌, append_assoc}
+use Rattle.std.specs.Prelude.{All}
+use Rattle.std.proofs.lemmas.List.Elements.{All-nil, All-cons}
 use Rattle.link_core.specs.Streams.{AreFrames}
 use Rattle.link_core.specs.declared.heard.Heard.{Heard}
 use Rattle.link_turn.specs.Talk.{AreReadings}
+
+-- an entry that has one time
+pub one_timed : (time : ℕ) → time < 2 ^ 37 → All (λ (t : ℕ). t < 2 ^ 37) (time ∷ [])
+one_timed time before = All-cons (λ (t : ℕ). t < 2 ^ 37) time [] before (All-nil (λ (t : ℕ). t < 2 ^ 37))
 
 -- one reading more
 pub readings_more : (times readings : List ℕ) (now : ℕ) → AreReadings times readings → AreReadings times (readings ++ now ∷ [])

@@ -49,7 +49,7 @@ module _ {C : Type 0} (hears_so : List ℕ → Heard → Type 0) (refuses : List
 
   listens_in : (phase : Phase) (wish : Wish) (talk : Talk) (s : Session C) → StandsIn hears_so refuses said core terms phase wish talk s → wish ≡ wish_is.Listen → ¬ (phase ≡ Fresh) → (phase ≡ Listening) × Listens talk s
   listens_in Fresh wish talk s stands is begun = absurd (begun refl)
-  listens_in Listening wish talk s stands is begun = (refl, stands.1, stands.4)
+  listens_in Listening wish talk s stands is begun = (refl, (stands.1, stands.4))
   listens_in (phase_is.Saying saying) wish talk s stands is begun = absurd (let e : wish_is.Say (said core stands.0) ≡ wish_is.Listen = sym stands.1 ∙ is in cc)
   listens_in (phase_is.Recording recording) wish talk s stands is begun = absurd (let e : wish_is.Perform stands.0 ≡ wish_is.Listen = sym stands.1 ∙ is in cc)
   listens_in ComingUp wish talk s stands is begun = absurd (let e : wish_is.Pass (Up terms.link) ≡ wish_is.Listen = sym stands.0 ∙ is in cc)

@@ -13,7 +13,7 @@ use Rattle.link_core.specs.declared.heard.Heard.{Heard}
 use Rattle.link_core.specs.declared.out.Out.{Out}
 use Rattle.route_rules.specs.declared.link_kind.LinkKind.{LinkKind}
 use Rattle.sms_record.specs.declared.limits.TheConstants.{MOST_NAME}
-use Rattle.link_turn.specs.Steps.{Step, Deed, performed, passed, took, said_in, deeds_in}
+use Rattle.link_turn.specs.Steps.{Step, Deed, performed, passed, took, said_in, deeds_in, times_of_entry}
 use Rattle.link_turn.specs.Back.{open_login, in_use, is_up, last_said, found_none, IsAmong}
 use Rattle.link_turn.specs.declared.end_cause.EndCause.{EndCause}
 use Rattle.link_turn.specs.declared.given.Given.{Given}
@@ -88,9 +88,13 @@ module _ {C : Type 0} where
   abbrev pub HasRoom : Session C → Type 0
   HasRoom session = length session.in_use.items < session.terms.window
 
-  -- what holds in each phase: there is room for a message that is taken, and an answer can have its tag
+  -- the store may be asked for a message: there is room for one, and it hasn't said that it has none
+  abbrev pub MayTake : Session C → Type 0
+  MayTake session = HasRoom session × (session.searched ≡ false)
+
+  -- what holds in each phase: the store may be asked where it is, there is room for a message that is said, and an answer can have its tag
   abbrev pub IsPhase : (holds : ℕ → Type 0) → Phase → Session C → Type 0
-  IsPhase holds Taking session = HasRoom session
+  IsPhase holds Taking session = MayTake session
   IsPhase holds (phase_is.Saying (saying_is.Submit tag message)) session = HasRoom session
   IsPhase holds (phase_is.Recording (recording_is.Report tag)) session = holds tag
   IsPhase holds (phase_is.Recording (recording_is.Message tag)) session = holds tag
@@ -151,11 +155,11 @@ module _ {C : Type 0} where
   Listens hears most (wish_is.TakeNext now) session = ⊤
   Listens hears most (wish_is.Over cause) session = ⊤
 
--- an entry that is to be recorded is one, and one of a link
+-- an entry that is to be recorded is one, and its time is a reading of the clock
 abbrev pub MayBeRecorded : Wish → Type 0
 MayBeRecorded wish_is.Listen = ⊤
 MayBeRecorded (wish_is.Say octets) = ⊤
-MayBeRecorded (wish_is.Perform kept) = IsEntry kept
+MayBeRecorded (wish_is.Perform kept) = IsEntry kept × All (λ time. time < 2 ^ 37) (times_of_entry kept)
 MayBeRecorded (wish_is.Pass brief) = ⊤
 MayBeRecorded (wish_is.TakeNext now) = ⊤
 MayBeRecorded (wish_is.Over cause) = ⊤

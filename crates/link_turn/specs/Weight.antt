@@ -1,5 +1,5 @@
 -- How much a session has still to do by itself, and what its end comes of. By these a turn comes to its end, and for its cause.
-use Rattle.std.specs.Prelude.{◌≡◌, ⊤, ℕ, ◌+◌, ◌*◌, ◌<◌, Bool, true, false, length, Option, Some, None, IfSome, Result, Ok, Err, if◌then◌else◌}
+use Rattle.std.specs.Prelude.{◌≡◌, ⊤, ℕ, ◌+◌, ◌*◌, ◌<◌, ◌≤◌, Bool, true, false, length, Option, Some, None, IfSome, Result, Ok, Err, if◌then◌else◌}
 use Rattle.gate_model.specs.declared.reply.Refusal.{Refusal}
 use Rattle.gate_store.specs.declared.taken.Taken.{Taken}
 use Rattle.link_turn.specs.declared.end_cause.EndCause.{EndCause}
@@ -30,27 +30,44 @@ abbrev pub count_of : Option ℕ → ℕ
 count_of None = 0
 count_of (Some message) = 1
 
+-- how much more there is to do with what it says: a message may be taken in among those that it holds
+abbrev pub weight_saying : Saying → ℕ
+weight_saying (saying_is.Submit tag message) = 4
+weight_saying (saying_is.Login tag) = 3
+weight_saying saying_is.Answer = 3
+weight_saying saying_is.Farewell = 3
+weight_saying saying_is.Keep = 3
+
+-- Something has passed. A message that is given back weighs three more, since it may be taken again.
+abbrev pub GetsLighterBehind : Phase → (old new : ℕ) → Type 0
+GetsLighterBehind (GivingBack message) old new = new + 3 < old
+GetsLighterBehind ComingUp old new = new < old
+GetsLighterBehind (Leaving cause one) old new = new < old
+GetsLighterBehind phase old new = ⊤
+
+-- The store answered to the wish for a message. One that is taken weighs three less, since the store has one less that may be taken.
+abbrev pub GetsLighterByTaken : Result (Option Taken) Refusal → (old new : ℕ) → Type 0
+GetsLighterByTaken (Ok None) old new = new < old
+GetsLighterByTaken (Ok (Some taken)) old new = new < old + 3
+GetsLighterByTaken (Err refusal) old new = new < old
+
 module _ {C : Type 0} where
   -- What it has to do whatever it does at the moment: octets that it keeps may become frames, the store may still be asked, and at the end
   -- what it holds is given back and the link goes down.
   abbrev pub load : Session C → ℕ
   load session = 8 * length session.kept + 2 * one_unless session.searched + length session.in_use.items + one_if session.up
 
-  -- what it has to do with what it says
-  abbrev pub weight_saying : Saying → Session C → ℕ
-  weight_saying (saying_is.Submit tag message) session = load session + 4
-  weight_saying (saying_is.Login tag) session = load session + 3
-  weight_saying saying_is.Answer session = load session + 3
-  weight_saying saying_is.Farewell session = load session + 3
-  weight_saying saying_is.Keep session = load session + 3
+  -- what it has to do once it leaves: what it holds is given back, with this message that has no tag, if there is one, and the link goes down
+  abbrev pub weight_left : Option ℕ → Session C → ℕ
+  weight_left one session = length session.in_use.items + count_of one + one_if session.up
 
   -- the same in each phase: a thing weighs more than what may come behind it
   abbrev pub weight_in : Phase → Session C → ℕ
   weight_in Done session = 0
-  weight_in (Leaving cause one) session = length session.in_use.items + count_of one + one_if session.up + 1
+  weight_in (Leaving cause one) session = weight_left one session + 1
   weight_in Listening session = load session + 2
   weight_in Taking session = load session + 2
-  weight_in (phase_is.Saying saying) session = weight_saying saying session
+  weight_in (phase_is.Saying saying) session = load session + weight_saying saying
   weight_in (phase_is.Recording recording) session = load session + 5
   weight_in ComingUp session = load session + 6
   weight_in (GivingBack message) session = load session + 7
@@ -59,23 +76,10 @@ module _ {C : Type 0} where
   abbrev pub weight : Session C → ℕ
   weight session = weight_in session.phase session
 
-  -- Something has passed: a message that is given back weighs three more, since it may be taken again.
-  abbrev pub GetsLighterBehind : Phase → Session C → Session C → Type 0
-  GetsLighterBehind (GivingBack message) old new = weight new + 3 < weight old
-  GetsLighterBehind ComingUp old new = weight new < weight old
-  GetsLighterBehind (Leaving cause one) old new = weight new < weight old
-  GetsLighterBehind Fresh old new = ⊤
-  GetsLighterBehind Listening old new = ⊤
-  GetsLighterBehind (phase_is.Saying saying) old new = ⊤
-  GetsLighterBehind (phase_is.Recording recording) old new = ⊤
-  GetsLighterBehind Taking old new = ⊤
-  GetsLighterBehind Done old new = ⊤
-
-  -- A message that is taken weighs three less, since the store has one less that may be taken.
-  abbrev pub GetsLighterByTaken : Result (Option Taken) Refusal → Session C → Session C → Type 0
-  GetsLighterByTaken (Ok None) old new = weight new < weight old
-  GetsLighterByTaken (Ok (Some taken)) old new = weight new < weight old + 3
-  GetsLighterByTaken (Err refusal) old new = weight new < weight old
+  -- what it has to do behind a frame: it wished something, or it goes on
+  abbrev pub WeighsThen : Option Wish → Session C → Session C → Type 0
+  WeighsThen None old new = load new ≤ load old
+  WeighsThen (Some wish) old new = weight new ≤ load old + 7
 
   -- It has less to do by what it was given, but for what it hears.
   abbrev pub GetsLighter : Session C → Given → Session C → Type 0
@@ -88,8 +92,8 @@ module _ {C : Type 0} where
   GetsLighter old given_is.SayFault new = weight new < weight old
   GetsLighter old given_is.Starved new = weight new < weight old
   GetsLighter old (given_is.Answered outcome) new = weight new < weight old
-  GetsLighter old given_is.Passed new = GetsLighterBehind old.phase old new
-  GetsLighter old (given_is.Taken outcome) new = GetsLighterByTaken outcome old new
+  GetsLighter old given_is.Passed new = GetsLighterBehind old.phase (weight old) (weight new)
+  GetsLighter old (given_is.Taken outcome) new = GetsLighterByTaken outcome (weight old) (weight new)
   GetsLighter old given_is.Stop new = weight new < weight old
 
 -- ---- what its end comes of
@@ -116,13 +120,18 @@ IsOwn (end_is.Budget taken) = ⊥
 IsOwn (end_is.QuietLimit turns) = ⊥
 
 module _ {C : Type 0} where
-  -- it ends for this cause
+  -- it leaves or is over, for this cause
   abbrev pub EndsFor : EndCause → Wish → Session C → Type 0
   EndsFor cause wish session = cause_in wish session.phase ≡ Some cause
 
   -- where it ends, it does so by itself
   abbrev pub EndsItself : Wish → Session C → Type 0
   EndsItself wish session = IfSome (cause_in wish session.phase) IsOwn
+
+  -- the same, where it wishes something
+  abbrev pub EndsItselfThen : Option Wish → Session C → Type 0
+  EndsItselfThen None session = ⊤
+  EndsItselfThen (Some wish) session = EndsItself wish session
 
   -- something has passed: a session that was leaving leaves for the same cause still
   abbrev pub EndsBehind : Phase → Wish → Session C → Type 0

@@ -3,6 +3,7 @@
 ghost use Rattle.std.specs.Prelude.{◌≡◌, ◌↔◌, ◌≤◌, ◌+◌, ℕ, List, IsTrue, IfOk, length};
 ghost use Rattle.sms_record.specs.declared.limits.TheConstants.{MOST_NAME};
 ghost use Rattle.link_turn.specs.Session as spec;
+ghost use Rattle.link_turn.specs.Weight as weight;
 ghost use Rattle.link_turn.specs.SessionSteps as steps;
 ghost use Rattle.link_turn.specs.declared.wish.Wish.{Wish as Wishes};
 
@@ -182,6 +183,9 @@ impl<C: LinkCore> Session<C> {
         ensures session { spec.IsSession C.tags C.next_tag C.holds self.new }
         ensures listens { spec.Listens C.hears C.most result self.new }
         ensures entry { spec.MayBeRecorded result }
+        ensures latest { spec.now_of self.new ≡ now }
+        ensures lighter { weight.GetsLighter self.old given self.new }
+        ensures ends { weight.EndsBy self.old given result self.new }
         ensures law { steps.Always (λ core terms talk. (wish : Wishes) → (cut : List ℕ) → steps.Stands C.hears C.refuses C.said core terms wish talk self.old → spec.MayBeCut wish given cut → steps.StandsOn C.hears C.refuses C.said core terms wish given now cut talk result self.new) }
     {
         self.latest = now;

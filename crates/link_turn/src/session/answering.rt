@@ -7,8 +7,9 @@ ghost use Rattle.link_turn.specs.SessionSteps as steps;
 ghost use Rattle.link_turn.specs.Steps as step;
 ghost use Rattle.gate_entries.specs.declared.recorded.Recorded.{Recorded};
 ghost use Rattle.gate_entries.specs.declared.passing.Passing.{Passing};
-ghost use Rattle.std.specs.Prelude.{◌≡◌, ℕ};
+ghost use Rattle.std.specs.Prelude.{◌≡◌, ◌≤◌, ◌<◌, ◌+◌, ℕ, false};
 ghost use Rattle.link_turn.specs.Session as spec;
+ghost use Rattle.link_turn.specs.Weight as weight;
 
 use super::{Phase, Recording, Saying, Session};
 use crate::{EndCause, Wish};
@@ -19,7 +20,8 @@ use sms_record::Sms;
 
 /// The end by a refusal. No entry of a link is refused for its route.
 fn end_by(refusal: Refusal) -> EndCause
-    ensures { result ≡ due.end_by refusal }
+    ensures is { result ≡ due.end_by refusal }
+    ensures own { weight.IsOwn result }
 {
     match refusal {
         Refusal::Full { .. } => EndCause::Full,
@@ -33,6 +35,9 @@ impl<C: LinkCore> Session<C> {
     pub(super) fn answered(&mut self, outcome: Result<Reply, Refusal>) -> Wish
         requires session { spec.IsSession C.tags C.next_tag C.holds self.old }
         ensures wished { spec.IsWished C.tags C.next_tag C.holds C.hears C.most result self.new }
+        ensures latest { spec.now_of self.new ≡ spec.now_of self.old }
+        ensures lighter { weight.weight self.new < weight.load self.old + 5 }
+        ensures ends { weight.EndsItself result self.new }
         ensures law { steps.Always (λ core terms talk. (kept : Recorded) → steps.WasRecorded C.hears C.refuses C.said core terms kept talk self.old → steps.StandsBehind C.hears C.refuses C.said core terms result (steps.with_step (step.records kept outcome) talk) self.new) }
     {
         match self.phase {
@@ -47,6 +52,9 @@ impl<C: LinkCore> Session<C> {
     fn ended(&mut self, message: u64, outcome: Result<Reply, Refusal>) -> Wish
         requires well { spec.IsWell C.tags C.next_tag self.old }
         ensures wished { spec.IsWished C.tags C.next_tag C.holds C.hears C.most result self.new }
+        ensures latest { spec.now_of self.new ≡ spec.now_of self.old }
+        ensures lighter { weight.weight self.new < weight.load self.old + 5 }
+        ensures ends { weight.EndsItself result self.new }
         ensures law { steps.Always (λ core terms talk. (kept : Recorded) → steps.Records C.hears C.refuses C.said core terms (Recording.End message) kept talk self.old → steps.StandsBehind C.hears C.refuses C.said core terms result (steps.with_step (step.records kept outcome) talk) self.new) }
     {
         match outcome {
@@ -60,6 +68,9 @@ impl<C: LinkCore> Session<C> {
         requires well { spec.IsWell C.tags C.next_tag self.old }
         requires tag { C.holds tag }
         ensures wished { spec.IsWished C.tags C.next_tag C.holds C.hears C.most result self.new }
+        ensures latest { spec.now_of self.new ≡ spec.now_of self.old }
+        ensures lighter { weight.weight self.new < weight.load self.old + 5 }
+        ensures ends { weight.EndsItself result self.new }
         ensures law { steps.Always (λ core terms talk. (kept : Recorded) → steps.Records C.hears C.refuses C.said core terms (Recording.Report tag) kept talk self.old → steps.StandsBehind C.hears C.refuses C.said core terms result (steps.with_step (step.records kept outcome) talk) self.new) }
     {
         match outcome {
@@ -73,6 +84,9 @@ impl<C: LinkCore> Session<C> {
         requires well { spec.IsWell C.tags C.next_tag self.old }
         requires tag { C.holds tag }
         ensures wished { spec.IsWished C.tags C.next_tag C.holds C.hears C.most result self.new }
+        ensures latest { spec.now_of self.new ≡ spec.now_of self.old }
+        ensures lighter { weight.weight self.new < weight.load self.old + 5 }
+        ensures ends { weight.EndsItself result self.new }
         ensures law { steps.Always (λ core terms talk. (kept : Recorded) → steps.Records C.hears C.refuses C.said core terms (Recording.Message tag) kept talk self.old → steps.StandsBehind C.hears C.refuses C.said core terms result (steps.with_step (step.records kept outcome) talk) self.new) }
     {
         match outcome {
@@ -86,6 +100,9 @@ impl<C: LinkCore> Session<C> {
         requires well { spec.IsWell C.tags C.next_tag self.old }
         requires tag { C.holds tag }
         ensures wished { spec.IsWished C.tags C.next_tag C.holds C.hears C.most result self.new }
+        ensures latest { spec.now_of self.new ≡ spec.now_of self.old }
+        ensures lighter { weight.weight self.new < weight.load self.old + 5 }
+        ensures ends { weight.EndsItself result self.new }
         ensures law { steps.Always (λ core terms talk. (kept : Recorded) → steps.Records C.hears C.refuses C.said core terms (Recording.Message tag) kept talk self.old → steps.StandsBehind C.hears C.refuses C.said core terms result (steps.with_step (step.records kept (Err refusal)) talk) self.new) }
     {
         match refusal {
@@ -100,6 +117,9 @@ impl<C: LinkCore> Session<C> {
     pub(super) fn passed(&mut self) -> Wish
         requires well { spec.IsWell C.tags C.next_tag self.old }
         ensures wished { spec.IsWished C.tags C.next_tag C.holds C.hears C.most result self.new }
+        ensures latest { spec.now_of self.new ≡ spec.now_of self.old }
+        ensures lighter { weight.GetsLighterBehind self.old.phase (weight.weight self.old) (weight.weight self.new) }
+        ensures ends { weight.EndsBehind self.old.phase result self.new }
         ensures law { steps.Always (λ core terms talk. (brief : Passing) → steps.HasPassedIn C.hears C.refuses C.said core terms self.old.phase brief talk self.old → steps.StandsBehind C.hears C.refuses C.said core terms result (steps.with_step (steps.passed_step self.old.phase brief) talk) self.new) }
     {
         match self.phase {
@@ -116,8 +136,12 @@ impl<C: LinkCore> Session<C> {
     pub(super) fn taken(&mut self, outcome: Result<Option<Taken>, Refusal>) -> Wish
         requires well { spec.IsWell C.tags C.next_tag self.old }
         requires room { spec.HasRoom self.old }
+        requires unsearched { self.old.searched ≡ false }
         requires given { spec.MayBeGiven C.kind self.old.latest self.old.in_use.items outcome }
         ensures wished { spec.IsWished C.tags C.next_tag C.holds C.hears C.most result self.new }
+        ensures latest { spec.now_of self.new ≡ spec.now_of self.old }
+        ensures lighter { weight.GetsLighterByTaken outcome (weight.load self.old + 2) (weight.weight self.new) }
+        ensures ends { weight.EndsItself result self.new }
         ensures law { steps.Always (λ core terms talk. (time : ℕ) → steps.WasTaken C.hears C.refuses C.said core terms time talk self.old → steps.StandsBehind C.hears C.refuses C.said core terms result (steps.with_step (step.takes time outcome) talk) self.new) }
     {
         match outcome {
@@ -130,8 +154,12 @@ impl<C: LinkCore> Session<C> {
     fn found(&mut self, taken: Option<Taken>) -> Wish
         requires well { spec.IsWell C.tags C.next_tag self.old }
         requires room { spec.HasRoom self.old }
+        requires unsearched { self.old.searched ≡ false }
         requires given { spec.MayBeGiven C.kind self.old.latest self.old.in_use.items (Ok taken) }
         ensures wished { spec.IsWished C.tags C.next_tag C.holds C.hears C.most result self.new }
+        ensures latest { spec.now_of self.new ≡ spec.now_of self.old }
+        ensures lighter { weight.GetsLighterByTaken (Ok taken) (weight.load self.old + 2) (weight.weight self.new) }
+        ensures ends { weight.EndsItself result self.new }
         ensures law { steps.Always (λ core terms talk. (time : ℕ) → steps.WasTaken C.hears C.refuses C.said core terms time talk self.old → steps.StandsBehind C.hears C.refuses C.said core terms result (steps.with_step (step.takes time (Ok taken)) talk) self.new) }
     {
         match taken {
@@ -149,6 +177,9 @@ impl<C: LinkCore> Session<C> {
         requires room { spec.HasRoom self.old }
         requires given { spec.MayBeGiven C.kind self.old.latest self.old.in_use.items (Ok (Some taken)) }
         ensures wished { spec.IsWished C.tags C.next_tag C.holds C.hears C.most result self.new }
+        ensures latest { spec.now_of self.new ≡ spec.now_of self.old }
+        ensures lighter { weight.weight self.new ≤ weight.load self.old + 4 }
+        ensures ends { weight.EndsItself result self.new }
         ensures law { steps.Always (λ core terms talk. (time : ℕ) → steps.WasTaken C.hears C.refuses C.said core terms time talk self.old → steps.StandsBehind C.hears C.refuses C.said core terms result (steps.with_step (step.takes time (Ok (Some taken))) talk) self.new) }
     {
         match taken {
@@ -164,6 +195,9 @@ impl<C: LinkCore> Session<C> {
         requires fresh { ¬ IsAmong message (spec.messages self.old.in_use.items) }
         requires submit { IsSubmit C.kind message sms self.old.latest }
         ensures wished { spec.IsWished C.tags C.next_tag C.holds C.hears C.most result self.new }
+        ensures latest { spec.now_of self.new ≡ spec.now_of self.old }
+        ensures lighter { weight.weight self.new ≤ weight.load self.old + 4 }
+        ensures ends { weight.EndsItself result self.new }
         ensures law { steps.Always (λ core terms talk. (time : ℕ) → steps.WasTaken C.hears C.refuses C.said core terms time talk self.old → steps.StandsBehind C.hears C.refuses C.said core terms result (steps.with_step (step.takes time (Ok (Some (Taken.Send message sms)))) talk) self.new) }
     {
         let tag = self.take_tag();

@@ -1,7 +1,8 @@
 //! A session comes to its end.
 
-ghost use Rattle.std.specs.Prelude.{◌≡◌, [], ◌∷◌, None, MatchOption};
+ghost use Rattle.std.specs.Prelude.{◌≡◌, ◌≤◌, [], ◌∷◌, None, MatchOption};
 ghost use Rattle.link_turn.specs.Session as spec;
+ghost use Rattle.link_turn.specs.Weight as weight;
 ghost use Rattle.link_turn.specs.SessionSteps as steps;
 
 use super::{Phase, Saying, Session};
@@ -25,6 +26,9 @@ impl<C: LinkCore> Session<C> {
     pub(super) fn end(&mut self, cause: EndCause, held: Option<u64>) -> Wish
         requires well { spec.IsWell C.tags C.next_tag self.old }
         ensures wished { spec.IsWished C.tags C.next_tag C.holds C.hears C.most result self.new }
+        ensures latest { spec.now_of self.new ≡ spec.now_of self.old }
+        ensures lighter { weight.weight self.new ≤ weight.weight_left held self.old }
+        ensures ends { weight.EndsFor cause result self.new }
         ensures law { steps.Always (λ core terms talk. steps.Ends C.hears C.refuses C.said core terms cause held talk self.old → steps.Stands C.hears C.refuses C.said core terms result talk self.new) }
     {
         self.phase = Phase::Leaving { cause, held };
@@ -35,6 +39,9 @@ impl<C: LinkCore> Session<C> {
     pub(super) fn broken(&mut self, cause: EndCause) -> Wish
         requires well { spec.IsWell C.tags C.next_tag self.old }
         ensures wished { spec.IsWished C.tags C.next_tag C.holds C.hears C.most result self.new }
+        ensures latest { spec.now_of self.new ≡ spec.now_of self.old }
+        ensures lighter { weight.weight self.new ≤ weight.weight_left (steps.message_in self.old.phase) self.old }
+        ensures ends { weight.EndsFor cause result self.new }
         ensures law { steps.Always (λ core terms talk. steps.Ends C.hears C.refuses C.said core terms cause (steps.message_in self.old.phase) talk self.old → steps.Stands C.hears C.refuses C.said core terms result talk self.new) }
     {
         let held = message_in(self.phase);
@@ -46,6 +53,9 @@ impl<C: LinkCore> Session<C> {
         requires well { spec.IsWell C.tags C.next_tag self.old }
         requires phase { self.old.phase ≡ Phase.Leaving cause held }
         ensures wished { spec.IsWished C.tags C.next_tag C.holds C.hears C.most result self.new }
+        ensures latest { spec.now_of self.new ≡ spec.now_of self.old }
+        ensures lighter { weight.weight self.new ≤ weight.weight_left held self.old }
+        ensures ends { weight.EndsFor cause result self.new }
         ensures law { steps.Always (λ core terms talk. steps.IsLeaving C.hears C.refuses C.said core terms cause held talk self.old → steps.Stands C.hears C.refuses C.said core terms result talk self.new) }
     {
         if let Some(message) = held {

@@ -1,6 +1,6 @@
 //! A session deals with a frame.
 
-ghost use Rattle.std.specs.Prelude.{◌≡◌, ℕ, None, IfOk};
+ghost use Rattle.std.specs.Prelude.{◌≡◌, ◌≤◌, ◌+◌, ℕ, None, IfOk};
 ghost use Rattle.link_core.specs.Heard.{IsSound, IsSoundVerdict, IsShort, IsArrival, heard_tag};
 ghost use Rattle.link_core.specs.Saying.{CanHear, MaySay, out_tag};
 ghost use Rattle.link_turn.specs.Back as back;
@@ -8,6 +8,7 @@ ghost use Rattle.link_turn.specs.SessionSteps as steps;
 ghost use Rattle.link_turn.specs.Steps as step;
 ghost use Rattle.link_turn.specs.Due as due;
 ghost use Rattle.link_turn.specs.Session as spec;
+ghost use Rattle.link_turn.specs.Weight as weight;
 
 use super::{Phase, Recording, Saying, Session};
 use crate::submitted::Submitted;
@@ -40,6 +41,9 @@ impl<C: LinkCore> Session<C> {
         requires tag { C.holds (heard_tag heard) }
         requires sound { IsSound heard }
         ensures wished { spec.IsWishedThen C.tags C.next_tag C.holds C.hears C.most result self.new }
+        ensures latest { spec.now_of self.new ≡ spec.now_of self.old }
+        ensures lighter { weight.WeighsThen result self.old self.new }
+        ensures ends { weight.EndsItselfThen result self.new }
         ensures kept { result ≡ None → self.new.kept ≡ self.old.kept }
         ensures law { steps.Always (λ core terms talk. steps.Faces C.hears C.refuses C.said core terms (heard) talk self.old → steps.StandsThen C.hears C.refuses C.said core terms result (steps.with_step (step.hears (heard)) talk) self.new) }
     {
@@ -67,6 +71,9 @@ impl<C: LinkCore> Session<C> {
         requires may { MaySay C.kind C.hears out.now }
         requires tag { C.holds (out_tag out.now) }
         ensures wished { spec.IsWished C.tags C.next_tag C.holds C.hears C.most result self.new }
+        ensures latest { spec.now_of self.new ≡ spec.now_of self.old }
+        ensures lighter { weight.weight self.new ≤ weight.load self.old + 3 }
+        ensures ends { weight.EndsItself result self.new }
         ensures law { steps.Always (λ core terms talk. steps.Owes C.hears C.refuses C.said core terms (due.say out.now) None talk self.old → steps.Frames C.hears C.refuses C.said core terms talk self.old → steps.IsAnswer out.now → steps.Stands C.hears C.refuses C.said core terms result talk self.new) }
     {
         self.say(out, Saying::Answer, None)
@@ -76,6 +83,9 @@ impl<C: LinkCore> Session<C> {
     fn logged_in(&mut self, tag: u32, code: u32) -> Option<Wish>
         requires well { spec.IsWell C.tags C.next_tag self.old }
         ensures wished { spec.IsWishedThen C.tags C.next_tag C.holds C.hears C.most result self.new }
+        ensures latest { spec.now_of self.new ≡ spec.now_of self.old }
+        ensures lighter { weight.WeighsThen result self.old self.new }
+        ensures ends { weight.EndsItselfThen result self.new }
         ensures kept { result ≡ None → self.new.kept ≡ self.old.kept }
         ensures law { steps.Always (λ core terms talk. steps.Faces C.hears C.refuses C.said core terms (Heard.Login tag code) talk self.old → steps.StandsThen C.hears C.refuses C.said core terms result (steps.with_step (step.hears (Heard.Login tag code)) talk) self.new) }
     {
@@ -92,6 +102,9 @@ impl<C: LinkCore> Session<C> {
     fn come_up(&mut self, code: u32) -> Wish
         requires well { spec.IsWell C.tags C.next_tag self.old }
         ensures wished { spec.IsWished C.tags C.next_tag C.holds C.hears C.most result self.new }
+        ensures latest { spec.now_of self.new ≡ spec.now_of self.old }
+        ensures lighter { weight.weight self.new ≤ weight.load self.old + 6 }
+        ensures ends { weight.EndsItself result self.new }
         ensures law { steps.Always (λ core terms talk. steps.Owes C.hears C.refuses C.said core terms (due.due_by_code code) None talk self.old → steps.Frames C.hears C.refuses C.said core terms talk self.old → steps.Stands C.hears C.refuses C.said core terms result talk self.new) }
     {
         if code != 0 {
@@ -108,6 +121,9 @@ impl<C: LinkCore> Session<C> {
         requires well { spec.IsWell C.tags C.next_tag self.old }
         requires sound { IsSoundVerdict verdict }
         ensures wished { spec.IsWishedThen C.tags C.next_tag C.holds C.hears C.most result self.new }
+        ensures latest { spec.now_of self.new ≡ spec.now_of self.old }
+        ensures lighter { weight.WeighsThen result self.old self.new }
+        ensures ends { weight.EndsItselfThen result self.new }
         ensures kept { result ≡ None → self.new.kept ≡ self.old.kept }
         ensures law { steps.Always (λ core terms talk. steps.Faces C.hears C.refuses C.said core terms (Heard.Reply tag verdict) talk self.old → steps.StandsThen C.hears C.refuses C.said core terms result (steps.with_step (step.hears (Heard.Reply tag verdict)) talk) self.new) }
     {
@@ -122,6 +138,9 @@ impl<C: LinkCore> Session<C> {
         requires well { spec.IsWell C.tags C.next_tag self.old }
         requires sound { IsSoundVerdict verdict }
         ensures wished { spec.IsWished C.tags C.next_tag C.holds C.hears C.most result self.new }
+        ensures latest { spec.now_of self.new ≡ spec.now_of self.old }
+        ensures lighter { weight.weight self.new ≤ weight.load self.old + 7 }
+        ensures ends { weight.EndsItself result self.new }
         ensures law { steps.Always (λ core terms talk. steps.Owes C.hears C.refuses C.said core terms (due.due_by_verdict verdict message) (Some message) talk self.old → steps.Frames C.hears C.refuses C.said core terms talk self.old → steps.IsToRecord C.hears C.refuses C.said core terms (Recording.End message) talk.steps → steps.Stands C.hears C.refuses C.said core terms result talk self.new) }
     {
         match verdict {
@@ -135,6 +154,9 @@ impl<C: LinkCore> Session<C> {
     fn nacked(&mut self, tag: u32) -> Option<Wish>
         requires well { spec.IsWell C.tags C.next_tag self.old }
         ensures wished { spec.IsWishedThen C.tags C.next_tag C.holds C.hears C.most result self.new }
+        ensures latest { spec.now_of self.new ≡ spec.now_of self.old }
+        ensures lighter { weight.WeighsThen result self.old self.new }
+        ensures ends { weight.EndsItselfThen result self.new }
         ensures kept { result ≡ None → self.new.kept ≡ self.old.kept }
         ensures law { steps.Always (λ core terms talk. (code : ℕ) → steps.Faces C.hears C.refuses C.said core terms (Heard.Nack tag code) talk self.old → steps.StandsThen C.hears C.refuses C.said core terms result (steps.with_step (step.hears (Heard.Nack tag code)) talk) self.new) }
     {
@@ -151,6 +173,7 @@ impl<C: LinkCore> Session<C> {
         ensures found { result ≡ back.message_under tag self.old.in_use.items }
         ensures same { self.new ≡ record self.old { in_use = self.new.in_use } }
         ensures others { self.new.in_use.items ≡ back.without_tag tag self.old.in_use.items }
+        ensures lighter { weight.load self.new ≤ weight.load self.old }
     {
         let message = message_under(&self.in_use, tag);
         remove_tag(&mut self.in_use, tag);
@@ -161,6 +184,9 @@ impl<C: LinkCore> Session<C> {
     fn give_back(&mut self, message: u64) -> Wish
         requires well { spec.IsWell C.tags C.next_tag self.old }
         ensures wished { spec.IsWished C.tags C.next_tag C.holds C.hears C.most result self.new }
+        ensures latest { spec.now_of self.new ≡ spec.now_of self.old }
+        ensures lighter { weight.weight self.new ≤ weight.load self.old + 7 }
+        ensures ends { weight.EndsItself result self.new }
         ensures law { steps.Always (λ core terms talk. steps.Owes C.hears C.refuses C.said core terms (due.give_back message) (Some message) talk self.old → steps.Frames C.hears C.refuses C.said core terms talk self.old → steps.Stands C.hears C.refuses C.said core terms result talk self.new) }
     {
         self.phase = Phase::GivingBack { message };
@@ -172,6 +198,9 @@ impl<C: LinkCore> Session<C> {
         requires well { spec.IsWell C.tags C.next_tag self.old }
         requires short { IsShort foreign }
         ensures wished { spec.IsWished C.tags C.next_tag C.holds C.hears C.most result self.new }
+        ensures latest { spec.now_of self.new ≡ spec.now_of self.old }
+        ensures lighter { weight.weight self.new ≤ weight.load self.old + 5 }
+        ensures ends { weight.EndsItself result self.new }
         ensures law { steps.Always (λ core terms talk. steps.Owes C.hears C.refuses C.said core terms (due.acknowledge message foreign) (Some message) talk self.old → steps.Frames C.hears C.refuses C.said core terms talk self.old → steps.IsToRecord C.hears C.refuses C.said core terms (Recording.End message) talk.steps → steps.Stands C.hears C.refuses C.said core terms result talk self.new) }
     {
         let Ok(smsc) = self.smsc() else {
@@ -190,6 +219,9 @@ impl<C: LinkCore> Session<C> {
     fn reject(&mut self, message: u64, code: u32) -> Wish
         requires well { spec.IsWell C.tags C.next_tag self.old }
         ensures wished { spec.IsWished C.tags C.next_tag C.holds C.hears C.most result self.new }
+        ensures latest { spec.now_of self.new ≡ spec.now_of self.old }
+        ensures lighter { weight.weight self.new ≤ weight.load self.old + 5 }
+        ensures ends { weight.EndsItself result self.new }
         ensures law { steps.Always (λ core terms talk. steps.Owes C.hears C.refuses C.said core terms (due.reject message code) (Some message) talk self.old → steps.Frames C.hears C.refuses C.said core terms talk self.old → steps.IsToRecord C.hears C.refuses C.said core terms (Recording.End message) talk.steps → steps.Stands C.hears C.refuses C.said core terms result talk self.new) }
     {
         let Ok(smsc) = self.smsc() else {
@@ -210,6 +242,9 @@ impl<C: LinkCore> Session<C> {
         requires tag { C.holds tag }
         requires sound { IsSound (Heard.Report tag foreign kind text) }
         ensures wished { spec.IsWished C.tags C.next_tag C.holds C.hears C.most result self.new }
+        ensures latest { spec.now_of self.new ≡ spec.now_of self.old }
+        ensures lighter { weight.weight self.new ≤ weight.load self.old + 5 }
+        ensures ends { weight.EndsItself result self.new }
         ensures law { steps.Always (λ core terms talk. steps.Owes C.hears C.refuses C.said core terms (due.report foreign kind text) None talk self.old → steps.Frames C.hears C.refuses C.said core terms talk self.old → steps.IsToRecord C.hears C.refuses C.said core terms (Recording.Report tag) talk.steps → steps.Stands C.hears C.refuses C.said core terms result talk self.new) }
     {
         let Ok(smsc) = self.smsc() else {
@@ -231,6 +266,9 @@ impl<C: LinkCore> Session<C> {
         requires tag { C.holds tag }
         requires sound { IsArrival sms }
         ensures wished { spec.IsWished C.tags C.next_tag C.holds C.hears C.most result self.new }
+        ensures latest { spec.now_of self.new ≡ spec.now_of self.old }
+        ensures lighter { weight.weight self.new ≤ weight.load self.old + 5 }
+        ensures ends { weight.EndsItself result self.new }
         ensures law { steps.Always (λ core terms talk. steps.Owes C.hears C.refuses C.said core terms (due.arrive sms) None talk self.old → steps.Frames C.hears C.refuses C.said core terms talk self.old → steps.IsToRecord C.hears C.refuses C.said core terms (Recording.Message tag) talk.steps → steps.Stands C.hears C.refuses C.said core terms result talk self.new) }
     {
         let (Ok(smsc), Ok(own)) = (self.smsc(), self.smsc()) else {

@@ -1,10 +1,11 @@
 //! A session looks at what it keeps, and at the clock.
 
-ghost use Rattle.std.specs.Prelude.{◌≡◌, ◌↔◌, ◌≤◌, ◌-◌, ◌&&◌, not, nat_lt, nat_le, IsTrue, None, IfSome, All, drop, find, length, option_map};
+ghost use Rattle.std.specs.Prelude.{◌≡◌, ◌↔◌, ◌≤◌, ◌+◌, ◌-◌, ◌&&◌, not, nat_lt, nat_le, IsTrue, None, IfSome, All, drop, find, length, option_map};
 ghost use Rattle.exact_octets.specs.Fronts.{IsProperFront};
 ghost use Rattle.link_core.specs.Grammar.{IsFrame, IsGrammar};
 ghost use Rattle.link_turn.specs.SessionSteps as steps;
 ghost use Rattle.link_turn.specs.Session as spec;
+ghost use Rattle.link_turn.specs.Weight as weight;
 
 use super::{Phase, Session};
 use crate::submitted::{Asked, Submitted};
@@ -27,6 +28,8 @@ impl<C: LinkCore> Session<C> {
     pub(super) fn hear(&mut self, octets: &[u8]) -> Wish
         requires well { spec.IsWell C.tags C.next_tag self.old }
         ensures wished { spec.IsWished C.tags C.next_tag C.holds C.hears C.most result self.new }
+        ensures latest { spec.now_of self.new ≡ spec.now_of self.old }
+        ensures ends { weight.EndsItself result self.new }
         ensures law { steps.Always (λ core terms talk. steps.Heeds C.hears C.refuses C.said core terms octets.now talk self.old → steps.StandsBehind C.hears C.refuses C.said core terms result (talk) self.new) }
     {
         self.searched = false;
@@ -40,6 +43,8 @@ impl<C: LinkCore> Session<C> {
     pub(super) fn quiet(&mut self) -> Wish
         requires well { spec.IsWell C.tags C.next_tag self.old }
         ensures wished { spec.IsWished C.tags C.next_tag C.holds C.hears C.most result self.new }
+        ensures latest { spec.now_of self.new ≡ spec.now_of self.old }
+        ensures ends { weight.EndsItself result self.new }
         ensures law { steps.Always (λ core terms talk. steps.IsReady C.hears C.refuses C.said core terms talk self.old → steps.Frames C.hears C.refuses C.said core terms talk self.old → steps.StandsBehind C.hears C.refuses C.said core terms result (talk) self.new) }
     {
         self.searched = false;
@@ -50,6 +55,10 @@ impl<C: LinkCore> Session<C> {
     pub(super) fn look(&mut self) -> Wish
         requires well { spec.IsWell C.tags C.next_tag self.old }
         ensures wished { spec.IsWished C.tags C.next_tag C.holds C.hears C.most result self.new }
+        ensures latest { spec.now_of self.new ≡ spec.now_of self.old }
+        ensures lighter { weight.weight self.new ≤ weight.load self.old + 3 }
+        ensures spoke { self.old.last_said ≡ self.old.latest → weight.weight self.new ≤ weight.load self.old + 2 }
+        ensures ends { weight.EndsItself result self.new }
         ensures law { steps.Always (λ core terms talk. steps.IsReady C.hears C.refuses C.said core terms talk self.old → steps.Frames C.hears C.refuses C.said core terms talk self.old → steps.StandsBehind C.hears C.refuses C.said core terms result (talk) self.new) }
     {
         loop {
@@ -87,6 +96,10 @@ impl<C: LinkCore> Session<C> {
         requires front { IsProperFront (IsFrame C.hears) self.old.kept }
         requires grammar { IsGrammar C.hears C.holds C.most }
         ensures wished { spec.IsWished C.tags C.next_tag C.holds C.hears C.most result self.new }
+        ensures latest { spec.now_of self.new ≡ spec.now_of self.old }
+        ensures lighter { weight.weight self.new ≤ weight.load self.old + 3 }
+        ensures spoke { self.old.last_said ≡ self.old.latest → weight.weight self.new ≤ weight.load self.old + 2 }
+        ensures ends { weight.EndsItself result self.new }
         ensures law { steps.Always (λ core terms talk. steps.IsReady C.hears C.refuses C.said core terms talk self.old → steps.Frames C.hears C.refuses C.said core terms talk self.old → steps.Stands C.hears C.refuses C.said core terms result talk self.new) }
     {
         match self.overdue() {
@@ -108,6 +121,10 @@ impl<C: LinkCore> Session<C> {
         requires front { IsProperFront (IsFrame C.hears) self.old.kept }
         requires grammar { IsGrammar C.hears C.holds C.most }
         ensures wished { spec.IsWished C.tags C.next_tag C.holds C.hears C.most result self.new }
+        ensures latest { spec.now_of self.new ≡ spec.now_of self.old }
+        ensures lighter { weight.weight self.new ≤ weight.load self.old + 3 }
+        ensures spoke { self.old.last_said ≡ self.old.latest → weight.weight self.new ≤ weight.load self.old + 2 }
+        ensures ends { weight.EndsItself result self.new }
         ensures law { steps.Always (λ core terms talk. steps.IsReady C.hears C.refuses C.said core terms talk self.old → steps.Frames C.hears C.refuses C.said core terms talk self.old → spec.NoneIsLate self.old → steps.Stands C.hears C.refuses C.said core terms result talk self.new) }
     {
         if self.is_silent() {

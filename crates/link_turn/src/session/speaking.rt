@@ -8,8 +8,9 @@ ghost use Rattle.link_turn.specs.Steps as step;
 ghost use Rattle.sms_record.specs.declared.sms.Sms.{Sms};
 ghost use Rattle.link_core.specs.declared.out.Out.{Out as Outs};
 ghost use Rattle.link_turn.specs.declared.session.Saying.{Saying as Sayings};
-ghost use Rattle.std.specs.Prelude.{◌≡◌, ◌↔◌, ℕ, IsTrue};
+ghost use Rattle.std.specs.Prelude.{◌≡◌, ◌↔◌, ◌≤◌, ◌<◌, ◌+◌, ℕ, IsTrue};
 ghost use Rattle.link_turn.specs.Session as spec;
+ghost use Rattle.link_turn.specs.Weight as weight;
 
 use super::{Phase, Saying, Session};
 use crate::submitted::{Asked, Submitted};
@@ -22,6 +23,8 @@ impl<C: LinkCore> Session<C> {
     pub(super) fn begin(&mut self) -> Wish
         requires well { spec.IsWell C.tags C.next_tag self.old }
         ensures wished { spec.IsWished C.tags C.next_tag C.holds C.hears C.most result self.new }
+        ensures latest { spec.now_of self.new ≡ spec.now_of self.old }
+        ensures ends { weight.EndsItself result self.new }
         ensures law { steps.Always (λ core terms talk. steps.Begins C.hears C.refuses C.said core terms talk self.old → steps.Stands C.hears C.refuses C.said core terms result talk self.new) }
     {
         let tag = self.take_tag();
@@ -32,6 +35,9 @@ impl<C: LinkCore> Session<C> {
     pub(super) fn ask(&mut self) -> Wish
         requires well { spec.IsWell C.tags C.next_tag self.old }
         ensures wished { spec.IsWished C.tags C.next_tag C.holds C.hears C.most result self.new }
+        ensures latest { spec.now_of self.new ≡ spec.now_of self.old }
+        ensures lighter { weight.weight self.new ≤ weight.load self.old + 3 }
+        ensures ends { weight.EndsItself result self.new }
         ensures law { steps.Always (λ core terms talk. steps.IsReady C.hears C.refuses C.said core terms talk self.old → steps.Frames C.hears C.refuses C.said core terms talk self.old → steps.WasSilent C.hears C.refuses C.said core terms self.old → steps.Stands C.hears C.refuses C.said core terms result talk self.new) }
     {
         let tag = self.take_tag();
@@ -46,6 +52,9 @@ impl<C: LinkCore> Session<C> {
         requires room { spec.IsPhase C.holds (Phase.Saying saying) self.old }
         requires held { held ≡ steps.message_said saying }
         ensures wished { spec.IsWished C.tags C.next_tag C.holds C.hears C.most result self.new }
+        ensures latest { spec.now_of self.new ≡ spec.now_of self.old }
+        ensures lighter { weight.weight self.new ≤ weight.load self.old + weight.weight_saying saying }
+        ensures ends { weight.EndsItself result self.new }
         ensures law { steps.Always (λ core terms talk. steps.Speaks C.hears C.refuses C.said core terms saying out.now talk self.old → steps.Stands C.hears C.refuses C.said core terms result talk self.new) }
     {
         match self.core.write(self.alloc, out) {
@@ -61,6 +70,9 @@ impl<C: LinkCore> Session<C> {
     pub(super) fn said(&mut self) -> Wish
         requires session { spec.IsSession C.tags C.next_tag C.holds self.old }
         ensures wished { spec.IsWished C.tags C.next_tag C.holds C.hears C.most result self.new }
+        ensures latest { spec.now_of self.new ≡ spec.now_of self.old }
+        ensures lighter { (saying : Sayings) → self.old.phase ≡ Phase.Saying saying → weight.weight self.new < weight.load self.old + weight.weight_saying saying }
+        ensures ends { weight.EndsItself result self.new }
         ensures law { steps.Always (λ core terms talk. (saying : Sayings) → (out : Outs) → self.old.phase ≡ Phase.Saying saying → steps.WasSaid C.hears C.refuses C.said core terms saying out talk self.old → steps.StandsBehind C.hears C.refuses C.said core terms result (steps.with_step (step.says out self.old.latest) talk) self.new) }
     {
         match self.phase {
@@ -74,6 +86,9 @@ impl<C: LinkCore> Session<C> {
         requires well { spec.IsWell C.tags C.next_tag self.old }
         requires room { spec.IsPhase C.holds (Phase.Saying saying) self.old }
         ensures wished { spec.IsWished C.tags C.next_tag C.holds C.hears C.most result self.new }
+        ensures latest { spec.now_of self.new ≡ spec.now_of self.old }
+        ensures lighter { weight.weight self.new < weight.load self.old + weight.weight_saying saying }
+        ensures ends { weight.EndsItself result self.new }
         ensures law { steps.Always (λ core terms talk. (out : Outs) → steps.WasSaid C.hears C.refuses C.said core terms saying out talk self.old → steps.StandsBehind C.hears C.refuses C.said core terms result (steps.with_step (step.says out self.old.latest) talk) self.new) }
     {
         self.last_said = self.latest;
@@ -89,7 +104,11 @@ impl<C: LinkCore> Session<C> {
     // The login was said whole.
     fn asked(&mut self, tag: u32) -> Wish
         requires well { spec.IsWell C.tags C.next_tag self.old }
+        requires spoke { self.old.last_said ≡ self.old.latest }
         ensures wished { spec.IsWished C.tags C.next_tag C.holds C.hears C.most result self.new }
+        ensures latest { spec.now_of self.new ≡ spec.now_of self.old }
+        ensures lighter { weight.weight self.new ≤ weight.load self.old + 2 }
+        ensures ends { weight.EndsItself result self.new }
         ensures law { steps.Always (λ core terms talk. steps.IsReady C.hears C.refuses C.said core terms talk (record self.old { login = Some (record { tag = tag; said = self.old.latest }) }) → steps.Frames C.hears C.refuses C.said core terms talk self.old → steps.StandsBehind C.hears C.refuses C.said core terms result talk self.new) }
     {
         self.login = Some(Asked {
@@ -103,7 +122,11 @@ impl<C: LinkCore> Session<C> {
     fn submitted(&mut self, tag: u32, message: u64) -> Wish
         requires well { spec.IsWell C.tags C.next_tag self.old }
         requires room { spec.HasRoom self.old }
+        requires spoke { self.old.last_said ≡ self.old.latest }
         ensures wished { spec.IsWished C.tags C.next_tag C.holds C.hears C.most result self.new }
+        ensures latest { spec.now_of self.new ≡ spec.now_of self.old }
+        ensures lighter { weight.weight self.new ≤ weight.load self.old + 3 }
+        ensures ends { weight.EndsItself result self.new }
         ensures law { steps.Always (λ core terms talk. (sms : Sms) → (time : ℕ) → steps.WasSubmitted C.hears C.refuses C.said core terms tag message sms time talk self.old → steps.StandsBehind C.hears C.refuses C.said core terms result (steps.with_step (step.says (Out.Submit tag message sms time) self.old.latest) talk) self.new) }
     {
         let asked = Asked {

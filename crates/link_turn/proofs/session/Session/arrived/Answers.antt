@@ -4,6 +4,7 @@ use Rattle.sms_record.specs.declared.limits.TheConstants.{MOST_NAME}
 use Rattle.gate_entries.specs.declared.recorded.Recorded.TheVariants as entry
 use Rattle.link_turn.specs.declared.session.Recording.TheVariants as recording_is
 use Rattle.link_turn.specs.Due.{arrive}
+use Rattle.link_turn.proofs.Readings.{one_timed}
 use Rattle.link_turn.proofs.Handling.{records_then}
 use Rattle.link_turn.proofs.session.Session.arrived.Goals as goal
 
@@ -15,7 +16,7 @@ returns-clause-wished g c =
     record {
       sound = record { well = record { few = w.few; enough = w.enough; tag = w.tag; smsc = w.smsc; in_time = w.in_time }; phase = c.requires.tag };
       listens = tt;
-      entry = record { smsc = omega (arith, smsc); sms = c.requires.sound.recorded c.args.self.now.latest c.in-Ok-Ok.own w.in_time own };
+      entry = (record { smsc = omega (arith, smsc); sms = c.requires.sound.recorded c.args.self.now.latest c.in-Ok-Ok.own w.in_time own }, one_timed c.args.self.now.latest w.in_time);
     }
 
 pub returns-clause-law : goal.returns-clause-law

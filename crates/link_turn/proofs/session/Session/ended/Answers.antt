@@ -18,6 +18,6 @@ pub returns-in-Err-clause-law : goal.returns-in-Err-clause-law
 returns-in-Err-clause-law g c = λ core terms talk kept r.
     subst (λ (o : Result Reply Refusal). StandsBehind g.C.LinkCore.hears g.C.LinkCore.refuses g.C.LinkCore.said core terms c.end.result (with_step (records kept o) talk) c.end.new.self) (sym c.in-Err.is) (
       [],
-      c.end.ensures.law core terms (with_step (records kept (Err c.in-Err.refusal)) talk) (subst (λ (cause : EndCause). Ends g.C.LinkCore.hears g.C.LinkCore.refuses g.C.LinkCore.said core terms cause (Some c.args.message) (with_step (records kept (Err c.in-Err.refusal)) talk) c.args.self.now) (sym c.end_by.ensures)
+      c.end.ensures.law core terms (with_step (records kept (Err c.in-Err.refusal)) talk) (subst (λ (cause : EndCause). Ends g.C.LinkCore.hears g.C.LinkCore.refuses g.C.LinkCore.said core terms cause (Some c.args.message) (with_step (records kept (Err c.in-Err.refusal)) talk) c.args.self.now) (sym c.end_by.ensures.is)
           (ended_refused g.C.LinkCore.hears g.C.LinkCore.refuses g.C.LinkCore.said core terms c.args.message kept c.in-Err.refusal talk c.args.self.now r)),
     )

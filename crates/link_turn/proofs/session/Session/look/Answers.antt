@@ -1,4 +1,4 @@
-use Rattle.std.proofs.Common.{List, ℕ, [], ◌∷◌, subst, inl}
+use Rattle.std.proofs.Common.{List, ℕ, [], ◌∷◌, subst, refl, arith, inl, inr}
 use Rattle.std.specs.Prelude.{Option}
 use Rattle.link_turn.specs.declared.wish.Wish.{Wish}
 use Rattle.link_core.specs.Grammar.{Tells}
@@ -8,12 +8,14 @@ use Rattle.link_turn.specs.Steps.{hears}
 use Rattle.link_turn.specs.Session.{IsWishedThen}
 use Rattle.link_turn.specs.declared.end_cause.EndCause.TheVariants as end_is
 use Rattle.link_turn.specs.SessionSteps.{StandsThen, with_step, with_handled}
+use Rattle.link_turn.specs.Weight.{WeighsThen, EndsItselfThen}
+use Rattle.link_turn.proofs.Weighing.{frame_some, frame_weighs, handled_weighs, handled_spoke}
 use Rattle.link_turn.proofs.Keeping.{front_dropped}
 use Rattle.link_turn.proofs.Looking.{faces, ends_idle, idle_here, none_has_none}
 use Rattle.link_turn.proofs.session.Session.look.Goals as goal
 
 pub loop-heard-init : goal.loop-heard-init
-loop-heard-init g c = record { well = c.requires.well; law = λ core terms talk ready frames. ([], ready, frames) }
+loop-heard-init g c = record { well = c.requires.well; lighter = inl refl; law = λ core terms talk ready frames. ([], ready, frames) }
 
 pub returns-in-Ok-NeedMore-clause-law : goal.returns-in-Ok-NeedMore-clause-law
 returns-in-Ok-NeedMore-clause-law g c = λ core terms talk ready frames.
@@ -45,9 +47,37 @@ returns-in-Some-clause-law g c = λ core terms talk ready frames.
     let h = c.handle.ensures.law core terms (with_handled i.0 talk) f in
     (c.in-Ok-Whole.heard ∷ i.0, subst (λ (o : Option Wish). StandsThen g.C.LinkCore.hears g.C.LinkCore.refuses g.C.LinkCore.said core terms o (with_step (hears c.in-Ok-Whole.heard) (with_handled i.0 talk)) c.handle.new.self) c.in-Some.is h)
 
+pub returns-in-Some-clause-lighter : goal.returns-in-Some-clause-lighter
+returns-in-Some-clause-lighter g c =
+    let told = subst (λ (o : List ℕ). Tells g.C.LinkCore.hears g.C.LinkCore.refuses o (framed.Whole c.in-Ok-Whole.heard c.in-Ok-Whole.len)) c.as_slice.ensures
+    (subst (λ (x : Framed). Tells g.C.LinkCore.hears g.C.LinkCore.refuses c.as_slice.result.now x) c.in-Ok-Whole.field-0-is c.in-Ok-Whole.ensures.read.told) in
+    let some = frame_some g.C.LinkCore.hears g.C.LinkCore.holds g.C.LinkCore.most c.in-Ok-Whole.len c.loop-heard.self.kept c.in-Ok-Whole.heard c.in-Ok-Whole.ensures.grammar told.0 in
+    let less = frame_weighs c.in-Ok-Whole.len c.args.self.now c.loop-heard.self c.drop_front.new.self c.drop_front.ensures some told.1 c.loop-heard.invariant.lighter in
+    let handled = subst (λ (o : Option Wish). WeighsThen o c.drop_front.new.self c.handle.new.self) c.in-Some.is c.handle.ensures.lighter in
+    omega (arith, less, handled)
+
+pub returns-in-Some-clause-spoke : goal.returns-in-Some-clause-spoke
+returns-in-Some-clause-spoke g c = λ spoke.
+    let told = subst (λ (o : List ℕ). Tells g.C.LinkCore.hears g.C.LinkCore.refuses o (framed.Whole c.in-Ok-Whole.heard c.in-Ok-Whole.len)) c.as_slice.ensures
+    (subst (λ (x : Framed). Tells g.C.LinkCore.hears g.C.LinkCore.refuses c.as_slice.result.now x) c.in-Ok-Whole.field-0-is c.in-Ok-Whole.ensures.read.told) in
+    let some = frame_some g.C.LinkCore.hears g.C.LinkCore.holds g.C.LinkCore.most c.in-Ok-Whole.len c.loop-heard.self.kept c.in-Ok-Whole.heard c.in-Ok-Whole.ensures.grammar told.0 in
+    let less = frame_weighs c.in-Ok-Whole.len c.args.self.now c.loop-heard.self c.drop_front.new.self c.drop_front.ensures some told.1 c.loop-heard.invariant.lighter in
+    let handled = subst (λ (o : Option Wish). WeighsThen o c.drop_front.new.self c.handle.new.self) c.in-Some.is c.handle.ensures.lighter in
+    omega (arith, less, handled)
+
+pub returns-in-Some-clause-ends : goal.returns-in-Some-clause-ends
+returns-in-Some-clause-ends g c = subst (λ (o : Option Wish). EndsItselfThen o c.handle.new.self) c.in-Some.is c.handle.ensures.ends
+
 pub loop-heard-preserved : goal.loop-heard-preserved
 loop-heard-preserved g c = record {
   well = subst (λ (o : Option Wish). IsWishedThen g.C.LinkCore.tags g.C.LinkCore.next_tag g.C.LinkCore.holds g.C.LinkCore.hears g.C.LinkCore.most o c.handle.new.self) c.in_default.is c.handle.ensures.wished;
+  lighter =
+      let told = subst (λ (o : List ℕ). Tells g.C.LinkCore.hears g.C.LinkCore.refuses o (framed.Whole c.in-Ok-Whole.heard c.in-Ok-Whole.len)) c.as_slice.ensures
+      (subst (λ (x : Framed). Tells g.C.LinkCore.hears g.C.LinkCore.refuses c.as_slice.result.now x) c.in-Ok-Whole.field-0-is c.in-Ok-Whole.ensures.read.told) in
+      let some = frame_some g.C.LinkCore.hears g.C.LinkCore.holds g.C.LinkCore.most c.in-Ok-Whole.len c.loop-heard.self.kept c.in-Ok-Whole.heard c.in-Ok-Whole.ensures.grammar told.0 in
+      let less = frame_weighs c.in-Ok-Whole.len c.args.self.now c.loop-heard.self c.drop_front.new.self c.drop_front.ensures some told.1 c.loop-heard.invariant.lighter in
+      let handled = subst (λ (o : Option Wish). WeighsThen o c.drop_front.new.self c.handle.new.self) c.in_default.is c.handle.ensures.lighter in
+      inr (omega (arith, less, handled));
   law = λ core terms talk ready frames.
       let told = subst (λ (o : List ℕ). Tells g.C.LinkCore.hears g.C.LinkCore.refuses o (framed.Whole c.in-Ok-Whole.heard c.in-Ok-Whole.len)) c.as_slice.ensures
       (subst (λ (x : Framed). Tells g.C.LinkCore.hears g.C.LinkCore.refuses c.as_slice.result.now x) c.in-Ok-Whole.field-0-is c.in-Ok-Whole.ensures.read.told) in
@@ -58,3 +88,36 @@ loop-heard-preserved g c = record {
       let q = subst (λ (o : Option Wish). StandsThen g.C.LinkCore.hears g.C.LinkCore.refuses g.C.LinkCore.said core terms o (with_step (hears c.in-Ok-Whole.heard) (with_handled i.0 talk)) c.handle.new.self) c.in_default.is h in
       (c.in-Ok-Whole.heard ∷ i.0, q.0, q.1);
 }
+
+pub returns-in-Ok-NeedMore-clause-lighter : goal.returns-in-Ok-NeedMore-clause-lighter
+returns-in-Ok-NeedMore-clause-lighter g c =
+    let less = handled_weighs c.args.self.now c.loop-heard.self c.loop-heard.invariant.lighter in
+    let idle = c.idle.ensures.lighter in
+    omega (arith, less, idle)
+
+pub returns-in-Ok-NeedMore-clause-spoke : goal.returns-in-Ok-NeedMore-clause-spoke
+returns-in-Ok-NeedMore-clause-spoke g c = handled_spoke c.args.self.now c.loop-heard.self _ c.loop-heard.invariant.lighter c.idle.ensures.lighter c.idle.ensures.spoke
+
+pub returns-in-Ok-Bad-clause-lighter : goal.returns-in-Ok-Bad-clause-lighter
+returns-in-Ok-Bad-clause-lighter g c =
+    let less = handled_weighs c.args.self.now c.loop-heard.self c.loop-heard.invariant.lighter in
+    let left = c.end.ensures.lighter in
+    omega (arith, less, left)
+
+pub returns-in-Ok-Bad-clause-spoke : goal.returns-in-Ok-Bad-clause-spoke
+returns-in-Ok-Bad-clause-spoke g c = λ spoke.
+    let less = handled_weighs c.args.self.now c.loop-heard.self c.loop-heard.invariant.lighter in
+    let left = c.end.ensures.lighter in
+    omega (arith, less, left)
+
+pub returns-in-Err-clause-lighter : goal.returns-in-Err-clause-lighter
+returns-in-Err-clause-lighter g c =
+    let less = handled_weighs c.args.self.now c.loop-heard.self c.loop-heard.invariant.lighter in
+    let left = c.end-in-Err.ensures.lighter in
+    omega (arith, less, left)
+
+pub returns-in-Err-clause-spoke : goal.returns-in-Err-clause-spoke
+returns-in-Err-clause-spoke g c = λ spoke.
+    let less = handled_weighs c.args.self.now c.loop-heard.self c.loop-heard.invariant.lighter in
+    let left = c.end-in-Err.ensures.lighter in
+    omega (arith, less, left)

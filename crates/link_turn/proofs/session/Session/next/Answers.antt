@@ -1,4 +1,4 @@
-use Rattle.std.proofs.Common.{List, ℕ, subst, sym, refl, inl, inr}
+use Rattle.std.proofs.Common.{◌≡◌, List, ℕ, ◌+◌, subst, sym, ap, refl, inl, inr, arith}
 use Rattle.link_turn.specs.Steps.{says, records, takes}
 use Rattle.link_turn.specs.Session.{FitsPhase, MayBeCut, no_talk}
 use Rattle.link_turn.specs.SessionSteps.{StandsOn, Heeds, Ends, with_step, message_in, passed_step}
@@ -7,6 +7,8 @@ use Rattle.link_turn.specs.declared.given.Given.{Given}
 use Rattle.link_turn.specs.declared.given.Given.TheVariants as given_is
 use Rattle.link_turn.specs.declared.session.Phase.{Phase}
 use Rattle.link_turn.specs.declared.wish.Wish.{Wish}
+use Rattle.link_turn.specs.Weight.{GetsLighter, GetsLighterBehind, GetsLighterByTaken, EndsBy, load, weight, weight_in, weight_saying}
+use Rattle.link_turn.proofs.Weighing.{ended_lighter, over_lighter, weight-now}
 use Rattle.link_turn.proofs.Going.{with_reading, with_octets, stands_on, stands_on_behind, goes_begun, goes_heard, goes_quiet, goes_over, goes_said, goes_broken, goes_recorded, goes_passed, goes_taken}
 use Rattle.link_turn.proofs.session.Session.next.Goals as goal
 
@@ -113,3 +115,114 @@ returns-in-Starved-clause-law g c = λ core terms talk wish cut stands may.
           stands_on g.C.LinkCore.hears g.C.LinkCore.refuses g.C.LinkCore.said core terms wish c.broken-in-Starved.result given_is.Starved c.args.now cut talk (record (with_reading c.args.now talk) { cut = cut }) c.broken-in-Starved.new.self q.0
           (c.broken-in-Starved.ensures.law core terms (record (with_reading c.args.now talk) { cut = cut }) (subst (λ (p : Phase). Ends g.C.LinkCore.hears g.C.LinkCore.refuses g.C.LinkCore.said core terms end_is.Memory (message_in p) (record (with_reading c.args.now talk) { cut = cut }) (record c.args.self.now { latest = c.args.now })) (sym saying.1) q.1))
     ])
+
+-- ---- it has less to do, and what its end comes of
+
+pub returns-in-Begin-clause-lighter : goal.returns-in-Begin-clause-lighter
+returns-in-Begin-clause-lighter g c =
+    subst (λ (x : Given). GetsLighter c.args.self.now x c.begin.new.self) (sym c.in-Begin.is)
+    tt
+
+pub returns-in-Begin-clause-ends : goal.returns-in-Begin-clause-ends
+returns-in-Begin-clause-ends g c = subst (λ (x : Given). EndsBy c.args.self.now x c.begin.result c.begin.new.self) (sym c.in-Begin.is) c.begin.ensures.ends
+
+pub returns-in-Heard-clause-lighter : goal.returns-in-Heard-clause-lighter
+returns-in-Heard-clause-lighter g c =
+    subst (λ (x : Given). GetsLighter c.args.self.now x c.hear.new.self) (sym c.in-Heard.is)
+    tt
+
+pub returns-in-Heard-clause-ends : goal.returns-in-Heard-clause-ends
+returns-in-Heard-clause-ends g c = subst (λ (x : Given). EndsBy c.args.self.now x c.hear.result c.hear.new.self) (sym c.in-Heard.is) c.hear.ensures.ends
+
+pub returns-in-Quiet-clause-lighter : goal.returns-in-Quiet-clause-lighter
+returns-in-Quiet-clause-lighter g c =
+    subst (λ (x : Given). GetsLighter c.args.self.now x c.quiet.new.self) (sym c.in-Quiet.is)
+    tt
+
+pub returns-in-Quiet-clause-ends : goal.returns-in-Quiet-clause-ends
+returns-in-Quiet-clause-ends g c = subst (λ (x : Given). EndsBy c.args.self.now x c.quiet.result c.quiet.new.self) (sym c.in-Quiet.is) c.quiet.ensures.ends
+
+pub returns-in-End-clause-lighter : goal.returns-in-End-clause-lighter
+returns-in-End-clause-lighter g c =
+    let fits = subst (λ (x : Given). FitsPhase g.C.LinkCore.kind c.args.now c.args.self.now x) c.in-End.is c.requires.fits.phase in
+    subst (λ (x : Given). GetsLighter c.args.self.now x c.end.new.self) (sym c.in-End.is)
+    (ended_lighter c.args.self.now _ fits c.end.ensures.lighter)
+
+pub returns-in-End-clause-ends : goal.returns-in-End-clause-ends
+returns-in-End-clause-ends g c = subst (λ (x : Given). EndsBy c.args.self.now x c.end.result c.end.new.self) (sym c.in-End.is) c.end.ensures.ends
+
+pub returns-in-Fault-clause-lighter : goal.returns-in-Fault-clause-lighter
+returns-in-Fault-clause-lighter g c =
+    let fits = subst (λ (x : Given). FitsPhase g.C.LinkCore.kind c.args.now c.args.self.now x) c.in-Fault.is c.requires.fits.phase in
+    subst (λ (x : Given). GetsLighter c.args.self.now x c.end-in-Fault.new.self) (sym c.in-Fault.is)
+    (ended_lighter c.args.self.now _ fits c.end-in-Fault.ensures.lighter)
+
+pub returns-in-Fault-clause-ends : goal.returns-in-Fault-clause-ends
+returns-in-Fault-clause-ends g c = subst (λ (x : Given). EndsBy c.args.self.now x c.end-in-Fault.result c.end-in-Fault.new.self) (sym c.in-Fault.is) c.end-in-Fault.ensures.ends
+
+pub returns-in-Stop-clause-lighter : goal.returns-in-Stop-clause-lighter
+returns-in-Stop-clause-lighter g c =
+    let fits = subst (λ (x : Given). FitsPhase g.C.LinkCore.kind c.args.now c.args.self.now x) c.in-Stop.is c.requires.fits.phase in
+    subst (λ (x : Given). GetsLighter c.args.self.now x c.end-in-Stop.new.self) (sym c.in-Stop.is)
+    (ended_lighter c.args.self.now _ fits c.end-in-Stop.ensures.lighter)
+
+pub returns-in-Stop-clause-ends : goal.returns-in-Stop-clause-ends
+returns-in-Stop-clause-ends g c = subst (λ (x : Given). EndsBy c.args.self.now x c.end-in-Stop.result c.end-in-Stop.new.self) (sym c.in-Stop.is) c.end-in-Stop.ensures.ends
+
+pub returns-in-Said-clause-lighter : goal.returns-in-Said-clause-lighter
+returns-in-Said-clause-lighter g c =
+    let fits = subst (λ (x : Given). FitsPhase g.C.LinkCore.kind c.args.now c.args.self.now x) c.in-Said.is c.requires.fits.phase in
+    let less = c.said.ensures.lighter fits.0 fits.1 in
+    let all : weight c.args.self.now ≡ load c.args.self.now + weight_saying fits.0 = ap (λ (p : Phase). weight_in p c.args.self.now) fits.1 in
+    subst (λ (x : Given). GetsLighter c.args.self.now x c.said.new.self) (sym c.in-Said.is)
+    (omega (arith, all, less))
+
+pub returns-in-Said-clause-ends : goal.returns-in-Said-clause-ends
+returns-in-Said-clause-ends g c = subst (λ (x : Given). EndsBy c.args.self.now x c.said.result c.said.new.self) (sym c.in-Said.is) c.said.ensures.ends
+
+pub returns-in-SayFault-clause-lighter : goal.returns-in-SayFault-clause-lighter
+returns-in-SayFault-clause-lighter g c =
+    let fits = subst (λ (x : Given). FitsPhase g.C.LinkCore.kind c.args.now c.args.self.now x) c.in-SayFault.is c.requires.fits.phase in
+    subst (λ (x : Given). GetsLighter c.args.self.now x c.broken.new.self) (sym c.in-SayFault.is)
+    (over_lighter c.args.self.now _ (inr fits) c.broken.ensures.lighter)
+
+pub returns-in-SayFault-clause-ends : goal.returns-in-SayFault-clause-ends
+returns-in-SayFault-clause-ends g c = subst (λ (x : Given). EndsBy c.args.self.now x c.broken.result c.broken.new.self) (sym c.in-SayFault.is) c.broken.ensures.ends
+
+pub returns-in-Starved-clause-lighter : goal.returns-in-Starved-clause-lighter
+returns-in-Starved-clause-lighter g c =
+    let fits = subst (λ (x : Given). FitsPhase g.C.LinkCore.kind c.args.now c.args.self.now x) c.in-Starved.is c.requires.fits.phase in
+    subst (λ (x : Given). GetsLighter c.args.self.now x c.broken-in-Starved.new.self) (sym c.in-Starved.is)
+    (over_lighter c.args.self.now _ fits c.broken-in-Starved.ensures.lighter)
+
+pub returns-in-Starved-clause-ends : goal.returns-in-Starved-clause-ends
+returns-in-Starved-clause-ends g c = subst (λ (x : Given). EndsBy c.args.self.now x c.broken-in-Starved.result c.broken-in-Starved.new.self) (sym c.in-Starved.is) c.broken-in-Starved.ensures.ends
+
+pub returns-in-Answered-clause-lighter : goal.returns-in-Answered-clause-lighter
+returns-in-Answered-clause-lighter g c =
+    let fits = subst (λ (x : Given). FitsPhase g.C.LinkCore.kind c.args.now c.args.self.now x) c.in-Answered.is c.requires.fits.phase in
+    let less = c.answered.ensures.lighter in
+    let all : weight c.args.self.now ≡ load c.args.self.now + 5 = ap (λ (p : Phase). weight_in p c.args.self.now) fits.1 in
+    subst (λ (x : Given). GetsLighter c.args.self.now x c.answered.new.self) (sym c.in-Answered.is)
+    (omega (arith, all, less))
+
+pub returns-in-Answered-clause-ends : goal.returns-in-Answered-clause-ends
+returns-in-Answered-clause-ends g c = subst (λ (x : Given). EndsBy c.args.self.now x c.answered.result c.answered.new.self) (sym c.in-Answered.is) c.answered.ensures.ends
+
+pub returns-in-Passed-clause-lighter : goal.returns-in-Passed-clause-lighter
+returns-in-Passed-clause-lighter g c =
+    subst (λ (x : Given). GetsLighter c.args.self.now x c.passed.new.self) (sym c.in-Passed.is)
+    (subst (λ (n : ℕ). GetsLighterBehind c.args.self.now.phase n (weight c.passed.new.self)) (weight-now c.args.self.now c.args.now) c.passed.ensures.lighter)
+
+pub returns-in-Passed-clause-ends : goal.returns-in-Passed-clause-ends
+returns-in-Passed-clause-ends g c = subst (λ (x : Given). EndsBy c.args.self.now x c.passed.result c.passed.new.self) (sym c.in-Passed.is) c.passed.ensures.ends
+
+pub returns-in-Taken-clause-lighter : goal.returns-in-Taken-clause-lighter
+returns-in-Taken-clause-lighter g c =
+    let fits = subst (λ (x : Given). FitsPhase g.C.LinkCore.kind c.args.now c.args.self.now x) c.in-Taken.is c.requires.fits.phase in
+    let all : weight c.args.self.now ≡ load c.args.self.now + 2 = ap (λ (p : Phase). weight_in p c.args.self.now) fits.0 in
+    subst (λ (x : Given). GetsLighter c.args.self.now x c.taken.new.self) (sym c.in-Taken.is)
+    (subst (λ (n : ℕ). GetsLighterByTaken c.in-Taken.outcome n (weight c.taken.new.self)) (sym all) c.taken.ensures.lighter)
+
+pub returns-in-Taken-clause-ends : goal.returns-in-Taken-clause-ends
+returns-in-Taken-clause-ends g c = subst (λ (x : Given). EndsBy c.args.self.now x c.taken.result c.taken.new.self) (sym c.in-Taken.is) c.taken.ensures.ends

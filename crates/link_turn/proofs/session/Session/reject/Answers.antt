@@ -1,11 +1,15 @@
-use Rattle.std.proofs.Common.{List, ℕ, ap, sym, refl}
+use Rattle.std.proofs.Common.{List, ℕ, ap, sym, refl, rules}
 use Rattle.std.specs.Prelude.{Some}
 use Rattle.gate_entries.specs.declared.recorded.Recorded.TheVariants as entry
 use Rattle.link_turn.specs.declared.session.Recording.TheVariants as recording_is
 use Rattle.link_turn.specs.Due.{reject}
+use Rattle.link_turn.proofs.Readings.{one_timed}
 use Rattle.link_turn.proofs.Handling.{records_then}
 use Rattle.gate_entries.specs.declared.cause.Cause.TheVariants.{Centre}
 use Rattle.link_turn.proofs.session.Session.reject.Goals as goal
+
+pub returns-clause-wished : goal.returns-clause-wished
+returns-clause-wished g c = search (rules, one_timed)
 
 pub returns-clause-law : goal.returns-clause-law
 returns-clause-law g c = λ core terms talk owes frames to.

@@ -18,6 +18,6 @@ pub returns-in-Err-clause-law : goal.returns-in-Err-clause-law
 returns-in-Err-clause-law g c = λ core terms talk time w.
     subst (λ (o : Result (Option Taken) Refusal). StandsBehind g.C.LinkCore.hears g.C.LinkCore.refuses g.C.LinkCore.said core terms c.end.result (with_step (takes time o) talk) c.end.new.self) (sym c.in-Err.is) (
       [],
-      c.end.ensures.law core terms (with_step (takes time (Err c.in-Err.refusal)) talk) (subst (λ (cause : EndCause). Ends g.C.LinkCore.hears g.C.LinkCore.refuses g.C.LinkCore.said core terms cause None (with_step (takes time (Err c.in-Err.refusal)) talk) c.args.self.now) (sym c.end_by.ensures)
+      c.end.ensures.law core terms (with_step (takes time (Err c.in-Err.refusal)) talk) (subst (λ (cause : EndCause). Ends g.C.LinkCore.hears g.C.LinkCore.refuses g.C.LinkCore.said core terms cause None (with_step (takes time (Err c.in-Err.refusal)) talk) c.args.self.now) (sym c.end_by.ensures.is)
           (taken_refused g.C.LinkCore.hears g.C.LinkCore.refuses g.C.LinkCore.said core terms time c.in-Err.refusal talk c.args.self.now w)),
     )
