@@ -3,6 +3,8 @@ pub mod Answered
 pub mod Doubts
 pub mod Ending
 pub mod Gives
+pub mod LinkCalls
+pub mod LinkChoice
 pub mod LinkEnding
 pub mod LinkKept
 pub mod LinkServing

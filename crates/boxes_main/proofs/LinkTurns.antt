@@ -65,6 +65,11 @@ pub fewer_remain : (progress : Progress) (heard : ℕ) → progress.taken < octe
 fewer_remain progress zero taken few = omega (arith, taken, few)
 fewer_remain progress (suc heard) taken few = omega (arith, taken, few)
 
+-- what holds where it isn't told to stop
+pub unlimited : (progress : Progress) (limit : Option Limit) → IsLimit progress limit → is_some limit ≡ false → (progress.taken < octets_limit) × (progress.quiets < quiets_limit)
+unlimited progress None is none = is
+unlimited progress (Some limit) is none = absurd (let e : true ≡ false = none in cc)
+
 module _ {C : Type 0} (hears : List ℕ → Heard → Type 0) (refuses : List ℕ → ℕ → ℕ → Type 0) (said : C → Out → List ℕ) (core : C) (terms : Terms) where
   -- a session that listens goes by the terms of its talk
   terms_in : (talk : Talk) (session : Session C) (phase : Phase) → StandsIn hears refuses said core terms phase wish_is.Listen talk session → terms_of session ≡ terms
