@@ -1,9 +1,12 @@
 -- A link of settings: its rule, how it reaches its centre, and that a session of it may begin.
-use Rattle.std.proofs.Common.{◌≡◌, ℕ, ◌<◌, ◌≤◌, ◌^◌, ◌+◌, Bool, List, [], ◌∷◌, length, All, Option, Some, None, inl, inr, ⊎_elim, refl, ap, sym, ◌∙◌, arith, subst, slice_get}
-use Rattle.std.specs.Prelude.{IsSomeAnd, MatchOption}
+use Rattle.std.proofs.Common.{◌≡◌, ℕ, ◌<◌, ◌≤◌, ◌^◌, ◌+◌, Bool, true, false, List, [], ◌∷◌, ◌++◌, length, take, get_or, All, Option, Some, None, inl, inr, ⊎_elim, refl, ap, sym, ◌∙◌, arith, subst, slice_get}
+use Rattle.std.specs.Prelude.{IsSomeAnd, MatchOption, bytes_eq, ◌≢◌}
 use Rattle.std.specs.List.{AllZip}
-use Rattle.std.proofs.lemmas.List.Elements.{All-nil, All-cons, All-head, All-tail, All-get_or}
-use Rattle.std.proofs.lemmas.Option.{slice_get_cases, slice_get_within, get_or_from_slice_get}
+use Rattle.std.proofs.lemmas.List.Elements.{All-nil, All-cons, All-head, All-tail, All-append, All-get_or}
+use Rattle.std.proofs.lemmas.List.{take_all, take_more}
+use Rattle.std.proofs.lemmas.Bool.Decides.{not_from_Decides}
+use Rattle.std.proofs.lemmas.Slice.Eq.{bytes_eq-Decides}
+use Rattle.std.proofs.lemmas.Option.{slice_get_cases, slice_get_read, slice_get_within, get_or_from_slice_get}
 use Rattle.std.proofs.lemmas.Slice.Zip.{AllZip-left}
 use Rattle.config_groups.specs.Ranges.{AreSettings, IsLink, IsLinkRule, IsLogin, IsPair}
 use Rattle.config_groups.specs.declared.settings.Settings.{Settings}
@@ -24,8 +27,33 @@ use Rattle.smpp_link.specs.Saying as smpp
 use Rattle.smpp_link.specs.Tags.{last_tag, next_tag}
 use Rattle.smpp_wire.specs.Command.{BindFields}
 use Rattle.store_disk.specs.Story.{Story}
-use Rattle.boxes_main.specs.Link.{terms_for}
-use Rattle.boxes_main.specs.LinkSteps.{IsLinked, IsNewSession, MayBegin}
+use Rattle.boxes_main.specs.Link.{terms_for, HasNone, IsFirst}
+use Rattle.boxes_main.specs.LinkSteps.{Chooses, Finds, IsLinked, IsNewSession, MayBegin}
+
+-- ---- the first link with an id
+
+module _ (id : List ℕ) (rules : List LinkRule) (at : ℕ) (rule : LinkRule) (here : List ℕ) (is_same : Bool)
+    (within : at < length rules) (is : rule ≡ get_or rules at rule) (octets : here ≡ rule.id) (compared : is_same ≡ bytes_eq id here) (none_before : HasNone id (take at rules)) where
+  -- it stands here
+  pub first_here : is_same ≡ true → IsFirst id rules at rule
+  first_here same = record {
+    there = slice_get_read rules (length rules) at rule refl within is;
+    named = sym ((bytes_eq-Decides id here).0 (sym compared ∙ same) ∙ octets);
+    others = none_before;
+  }
+
+  -- or it doesn't
+  pub none_so_far : is_same ≡ false → HasNone id (take (at + 1) rules)
+  none_so_far other =
+      subst (HasNone id) (sym (take_more rules at rule within ∙ ap (λ r. take at rules ++ r ∷ []) (sym is)))
+      (All-append (λ (r : LinkRule). r.id ≢ id) (take at rules) (rule ∷ []) none_before
+      (All-cons (λ (r : LinkRule). r.id ≢ id) rule [] (λ e. not_from_Decides (bytes_eq id here) (bytes_eq-Decides id here) (sym compared ∙ other) (sym (octets ∙ e)))
+      (All-nil (λ (r : LinkRule). r.id ≢ id))))
+
+pub none_at_all : (id : List ℕ) (rules : List LinkRule) (at : ℕ) → length rules ≤ at → HasNone id (take at rules) → HasNone id rules
+none_at_all id rules at past none = subst (HasNone id) (take_all at rules past) none
+
+-- ---- its rule, and how it reaches its centre
 
 -- what holds of all holds of each
 pub each_at : {A : Type 0} (P : A → Type 0) (xs : List A) (at : ℕ) (x : A) → All P xs → slice_get xs at ≡ Some x → P x
@@ -54,6 +82,12 @@ ids_of (rule ∷ rules) all =
     (ids_of rules (All-tail IsLinkRule rule rules all))
 
 module _ (settings : Settings) (in_range : AreSettings settings) where
+  -- a link that is chosen
+  pub chooses_by : (id : List ℕ) (number : ℕ) (kind : LinkKind) → Finds id settings.rules.links number kind → kind ≡ Smpp → settings.core.store_file ≢ [] → Chooses settings id number
+  chooses_by id number kind found is stored =
+      let other = other_at settings.rules.links settings.links number found.0 in_range.same_links found.1.there in
+      record { rule = found.0; first = found.1; kind = found.2 ∙ is; centre = other.0; centre_is = other.1; store_file = stored }
+
   pub pair_in : (number : ℕ) (centre : LinkSettings) → (linked : IsLinked settings number centre) → IsPair linked.rule centre
   pair_in number centre linked = pair_at settings.rules.links settings.links number linked.rule centre in_range.pairs linked.there linked.centre_is
 

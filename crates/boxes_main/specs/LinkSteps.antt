@@ -24,6 +24,7 @@ use Rattle.link_turn.specs.declared.session.Session.{Session}
 use Rattle.link_turn.specs.declared.terms.Terms.{Terms}
 use Rattle.link_turn.specs.declared.wish.Wish.TheVariants.{Listen}
 use Rattle.peer_dialer.specs.Dealings.{Dealings, Adds, Stays, asked_for}
+use Rattle.route_rules.specs.declared.link_kind.LinkKind.{LinkKind}
 use Rattle.route_rules.specs.declared.link_kind.LinkKind.TheVariants.{Smpp}
 use Rattle.route_rules.specs.declared.link_rule.LinkRule.{LinkRule}
 use Rattle.route_rules.specs.declared.rules.Rules.{Rules}
@@ -192,9 +193,9 @@ pub record IsNewSession (number : ℕ) (centre : LinkSettings) (session : Sessio
 abbrev pub MayBegin : {D : Type 0} → (tells : Bool) → (D → Story) → Session BindFields → Stored D → Type 0
 MayBegin tells story session store = MayTurn last_tag next_tag (λ tag. tag < 2 ^ 32) Smpp Hears Refuses smpp.said tells story session store 0
 
--- the first link with the id stands there
-abbrev pub Finds : (id : List ℕ) → List LinkRule → (number : ℕ) → Type 0
-Finds id rules number = (rule : LinkRule) × IsFirst id rules number rule
+-- the first link with the id stands there, and speaks this
+abbrev pub Finds : (id : List ℕ) → List LinkRule → (number : ℕ) → LinkKind → Type 0
+Finds id rules number kind = (rule : LinkRule) × IsFirst id rules number rule × (rule.kind ≡ kind)
 
 -- The link speaks SMPP, and how it reaches its centre.
 pub record IsLinked (settings : Settings) (number : ℕ) (centre : LinkSettings) : Type 0 where

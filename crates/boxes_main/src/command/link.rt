@@ -16,19 +16,19 @@ use crate::link_session::{new_session, serve_link};
 use crate::opening::{Unopened, open_store, read_settings};
 use crate::session::{Room, make_room};
 use crate::{Ended, Failure, House};
-use config_groups::{ConfigFault, Settings};
+use config_groups::{ConfigFault, LinkSettings, Settings};
 use gate_store::StoreFault;
 use kn_base::Octets;
 use route_rules::{LinkKind, LinkRule};
 use std::alloc::Global;
 
-/// The number of the first link with an id.
-fn find_link(links: &[LinkRule], id: &[u8]) -> Option<usize>
-    ensures { MatchOption result (HasNone id.now links.now) (λ at. steps.Finds id.now links.now at) }
+/// The number of the first link with an id, and what it speaks.
+fn find_link(links: &[LinkRule], id: &[u8]) -> Option<(usize, LinkKind)>
+    ensures { MatchOption result (HasNone id.now links.now) (λ found. steps.Finds id.now links.now found.0 found.1) }
 {
-    for at in 0..links.len() {
-        if id == links[at].id.as_slice() {
-            return Some(at);
+    for (at, rule) in links.iter().enumerate() {
+        if id == rule.id.as_slice() {
+            return Some((at, rule.kind));
         }
     }
     None
@@ -40,13 +40,12 @@ fn choose(settings: &Settings, id: &[u8]) -> Result<u32, Failure>
     ensures ok { IfOk result (steps.Chooses settings.now id.now) }
     ensures err { IfErr result (steps.ChoosesNone settings.now id.now) }
 {
-    let links = settings.rules.links.as_slice();
-    let Some(at) = find_link(links, id) else {
+    let Some(found) = find_link(settings.rules.links.as_slice(), id) else {
         return Err(Failure::NoSuchLink);
     };
-    match links[at].kind {
+    match found.1 {
         LinkKind::Smpp if settings.core.store_file.is_empty() => Err(Failure::NoStoreFile),
-        LinkKind::Smpp => Ok(at as u32),
+        LinkKind::Smpp => Ok(found.0 as u32),
         LinkKind::Ucp | LinkKind::Cimd2 => Err(Failure::KindNotBuilt),
     }
 }
@@ -73,6 +72,14 @@ fn chosen<H: House>(
     }
 }
 
+/// How a link reaches its centre.
+fn centre_of(settings: &Settings, link: u32) -> &LinkSettings
+    requires { steps.HasCentre settings.now link }
+    ensures { steps.IsLinked settings.now link result.now }
+{
+    &settings.links.as_slice()[link as usize]
+}
+
 /// Opens the store of settings, and holds a session of a link over it. All memory for the session is taken first.
 fn serve<H: House>(
     alloc: Global,
@@ -88,7 +95,7 @@ fn serve<H: House>(
         (H.rooms house.old) (H.rooms house.new) (H.stock house.old) (H.stock house.new)
         result.status result.failure result.disk (map worker_of result.workers) }
 {
-    let centre = &settings.links.as_slice()[link as usize];
+    let centre = centre_of(&settings, link);
     let Ok(session) = new_session(alloc, link, centre) else {
         return unserved(alloc, Failure::Store(StoreFault::Memory), None);
     };
