@@ -1,6 +1,6 @@
 -- A session goes on from wish to wish, with its store.
-use Rattle.std.proofs.Common.{◌≡◌, ◌∙◌, refl, sym, ap, subst, ℕ, ◌<◌, ◌≤◌, Bool, inl, inr, List, [], ◌∷◌, ◌++◌, All, arith}
-use Rattle.std.specs.Prelude.{⊤, Option, Some, None, Result}
+use Rattle.std.proofs.Common.{◌≡◌, ◌∙◌, refl, sym, ap, subst, ℕ, ◌≤◌, Bool, List, [], ◌∷◌, ◌++◌, All}
+use Rattle.std.specs.Prelude.{Option}
 use Rattle.std.proofs.lemmas.List.{append-nil}
 use Rattle.std.proofs.lemmas.List.Elements.{All-nil, All-cons, All-append}
 use Rattle.gate_model.specs.Gate.{HaveIds}
@@ -13,18 +13,14 @@ use Rattle.kn_base.specs.Course.{Course}
 use Rattle.link_core.specs.declared.heard.Heard.{Heard}
 use Rattle.link_core.specs.declared.out.Out.{Out}
 use Rattle.route_rules.specs.declared.link_kind.LinkKind.{LinkKind}
-use Rattle.route_rules.specs.declared.rules.Rules.{Rules}
 use Rattle.store_disk.specs.Story.{Story}
 use Rattle.link_turn.specs.Back.{held, is_up}
-use Rattle.link_turn.specs.Session.{Talk, no_talk, GoesOn, IsFresh, IsSession, MayBeRecorded, MayBeCut, deeds_by, heard_by, now_of, spoken_in, terms_of}
+use Rattle.link_turn.specs.Session.{Talk, IsFresh, IsSession, MayBeRecorded, MayBeCut, deeds_by, heard_by, now_of, terms_of}
 use Rattle.link_turn.specs.SessionSteps.{Stands, StandsIn, StandsOn}
-use Rattle.link_turn.specs.Steps.{Step, Deed, deeds_in}
+use Rattle.link_turn.specs.Steps.{Deed, deeds_in}
 use Rattle.link_turn.specs.Turn.{IsOf, IsReading, IsLinkOf, HearsNoReport}
-use Rattle.link_turn.specs.Talk.{LinkTalk}
 use Rattle.link_turn.specs.TurnSteps.{Does, MayDo, Wishes, Carries}
 use Rattle.link_turn.specs.declared.given.Given.{Given}
-use Rattle.link_turn.specs.declared.end_cause.EndCause.{EndCause}
-use Rattle.link_turn.specs.declared.given.Given.TheVariants as given_is
 use Rattle.link_turn.specs.declared.session.Phase.{Phase}
 use Rattle.link_turn.specs.declared.session.Phase.TheVariants.{Fresh, Listening, ComingUp, GivingBack, Taking, Leaving, Done}
 use Rattle.link_turn.specs.declared.session.Phase.TheVariants as phase_is
@@ -36,7 +32,7 @@ use Rattle.link_turn.proofs.Doing.{IsOne, may_do}
 use Rattle.link_turn.proofs.Holding.{held_in, up_in, held_is, up_is, of_performed, of_passed, of_takes}
 use Rattle.link_turn.proofs.Fitting.{Spoke, said_all, faulted, starved, spoke_so}
 use Rattle.link_turn.proofs.Going.{ended_talk}
-use Rattle.link_turn.proofs.TalkingOn.{Comes, comes_done, talks_none, talks_then, talks_by}
+use Rattle.link_turn.proofs.TalkingOn.{comes_done, talks_none, talks_then, talks_by}
 
 not_nil : (xs : List ℕ) (x : ℕ) → xs ++ x ∷ [] ≡ [] → ⊥
 not_nil [] x is = cc

@@ -1,8 +1,6 @@
 -- What the end of a session comes of, while its wishes are done.
-use Rattle.std.proofs.Common.{◌≡◌, ◌∙◌, refl, sym, ap, subst, ℕ, ◌+◌, ◌<◌, ◌≤◌, Bool, true, false, inl, inr, ◌⊎◌, List, [], ◌∷◌, arith}
-use Rattle.std.specs.Prelude.{⊤, Option, Some, None, Result, IfSome}
-use Rattle.gate_entries.specs.declared.passing.Passing.{Passing}
-use Rattle.gate_entries.specs.declared.passing.Passing.TheVariants.{Up, Returned}
+use Rattle.std.proofs.Common.{◌≡◌, ◌∙◌, refl, sym, ap, subst, ℕ, Bool, inl, inr, List}
+use Rattle.std.specs.Prelude.{Option, Some, None, IfSome}
 use Rattle.gate_store.specs.declared.store.Store.{Store}
 use Rattle.kn_base.specs.Count.{Counts, Rose}
 use Rattle.kn_base.specs.Course.{Course, Fails}
@@ -12,18 +10,16 @@ use Rattle.store_disk.specs.Story.{Story}
 use Rattle.link_turn.specs.Session.{Talk}
 use Rattle.link_turn.specs.SessionSteps.{Stands, StandsIn}
 use Rattle.link_turn.specs.TurnSteps.{Does, CountsEnd, CountsCause}
-use Rattle.link_turn.specs.Weight.{cause_in, IsOwn, EndsFor, EndsItself, EndsBehind, EndsBy}
+use Rattle.link_turn.specs.Weight.{cause_in, IsOwn, EndsBehind, EndsBy}
 use Rattle.link_turn.specs.declared.end_cause.EndCause.{EndCause}
 use Rattle.link_turn.specs.declared.end_cause.EndCause.TheVariants as end_is
 use Rattle.link_turn.specs.declared.given.Given.{Given}
-use Rattle.link_turn.specs.declared.given.Given.TheVariants as given_is
 use Rattle.link_turn.specs.declared.session.Phase.{Phase}
 use Rattle.link_turn.specs.declared.session.Phase.TheVariants.{Fresh, Listening, ComingUp, GivingBack, Taking, Leaving, Done}
 use Rattle.link_turn.specs.declared.session.Phase.TheVariants as phase_is
 use Rattle.link_turn.specs.declared.session.Session.{Session}
 use Rattle.link_turn.specs.declared.terms.Terms.{Terms}
 use Rattle.link_turn.specs.declared.wish.Wish.{Wish}
-use Rattle.link_turn.specs.declared.wish.Wish.TheVariants as wish_is
 use Rattle.link_turn.proofs.Fitting.{Spoke, said_all, faulted, starved, spoke_so}
 
 -- a cause of its own needs no count

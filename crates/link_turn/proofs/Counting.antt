@@ -1,13 +1,13 @@
 -- What a turn counts at its peer.
-use Rattle.std.proofs.Common.{◌≡◌, ◌∙◌, refl, sym, ap, subst, ℕ, ◌<◌, ◌≤◌, Bool, true, false, inl, inr, ◌⊎◌, List, length, arith}
-use Rattle.std.specs.Prelude.{⊤, Option, Some, None, IfSome}
+use Rattle.std.proofs.Common.{◌≡◌, ◌∙◌, refl, sym, ap, subst, ℕ, ◌<◌, ◌≤◌, Bool, true, false, inl, inr, length, arith}
+use Rattle.std.specs.Prelude.{Option, Some, None, IfSome}
 use Rattle.std.proofs.lemmas.Bool.{false≢true}
 use Rattle.kn_base.specs.Count.{Counts, Rose}
 use Rattle.kn_base.specs.Course.{Course}
 use Rattle.link_turn.specs.Session.{IsFresh, heard_by}
 use Rattle.link_turn.specs.Turn.{CountsTurn}
 use Rattle.link_turn.specs.TurnSteps.{BeginsWith, HearsSo, CountsEnd, CountsCause, IsToStop}
-use Rattle.link_turn.specs.Weight.{cause_in, IsOwn, EndsBy, EndsFor}
+use Rattle.link_turn.specs.Weight.{cause_in, IsOwn, EndsBy}
 use Rattle.link_turn.specs.declared.end_cause.EndCause.{EndCause}
 use Rattle.link_turn.specs.declared.end_cause.EndCause.TheVariants as end_is
 use Rattle.link_turn.specs.declared.given.Given.{Given}

@@ -1,10 +1,10 @@
 -- What a session wishes may be done.
-use Rattle.std.proofs.Common.{◌≡◌, ◌≢◌, ◌∙◌, refl, sym, ap, subst, ℕ, ◌+◌, ◌<◌, ◌≤◌, ◌^◌, Bool, true, false, inl, inr, ◌⊎◌, List, [], ◌∷◌, ◌++◌, length, All, arith}
-use Rattle.std.specs.Prelude.{⊤, Option, Some, None, Result, Ok, Err, IfSome, IsSomeAnd, IsTrue, slice_get, is_some, ◌&&◌, ◌==◌}
+use Rattle.std.proofs.Common.{◌≡◌, ◌≢◌, ◌∙◌, refl, sym, ap, subst, ℕ, ◌+◌, Bool, true, inl, inr, List, [], ◌∷◌, ◌++◌, All, arith}
+use Rattle.std.specs.Prelude.{⊤, Option, Some, None, IfSome, IsSomeAnd, is_some, ◌&&◌, ◌==◌}
 use Rattle.std.specs.Option.{option_map_or}
-use Rattle.std.proofs.lemmas.Bool.{cases_Bool, false≢true}
+use Rattle.std.proofs.lemmas.Bool.{cases_Bool}
 use Rattle.std.proofs.lemmas.List.Elements.{All-head, All-tail}
-use Rattle.gate_entries.specs.Entry.{IsEntry, entry_octets}
+use Rattle.gate_entries.specs.Entry.{IsEntry}
 use Rattle.gate_entries.specs.declared.cause.Cause.TheVariants.{Centre}
 use Rattle.gate_entries.specs.declared.passing.Passing.{Passing}
 use Rattle.gate_entries.specs.declared.passing.Passing.TheVariants.{Up, Down, Returned}
@@ -12,10 +12,9 @@ use Rattle.gate_entries.specs.declared.passing.Passing.TheVariants as passing
 use Rattle.gate_entries.specs.declared.recorded.Recorded.{Recorded}
 use Rattle.gate_entries.specs.declared.recorded.Recorded.TheVariants as entry
 use Rattle.gate_entries.proofs.Sizes.{entry_bound}
-use Rattle.gate_model.specs.Gate.{lease_under}
 use Rattle.gate_model.specs.Lawful.{MayPass, IsLeased, is_time}
 use Rattle.gate_model.specs.Numbers.{value_under, is_held}
-use Rattle.gate_model.specs.State.{State, flight_of}
+use Rattle.gate_model.specs.State.{State}
 use Rattle.gate_model.specs.declared.waiting.Waiting.{Waiting}
 use Rattle.gate_store.specs.Store.{IsOpen, rules_in, state_in}
 use Rattle.gate_store.specs.StoreSteps.{MayRecord}
@@ -33,11 +32,10 @@ use Rattle.link_turn.specs.Back.{open_login, in_use, held, is_up, message_under,
 use Rattle.link_turn.specs.Steps.{Step, hears, says, records, passes, takes, leaves, heards_in, times_in, times_of_entry}
 use Rattle.link_turn.specs.Due.{Due, nothing, log_in, come_up, acknowledge, reject, give_back, report, arrive, send, say, over, left, due, due_by, due_by_code, due_by_login, due_by_verdict, entry_for}
 use Rattle.link_turn.specs.Session.{Talk, MayBeRecorded}
-use Rattle.link_turn.specs.SessionSteps.{Agrees, Owes, Holds, Records, IsLeaving, IsToRecord, message_ended, with_step, Stands, StandsIn}
-use Rattle.link_turn.specs.Talk.{AreReadings, AreSteps, MayLeave}
+use Rattle.link_turn.specs.SessionSteps.{Records, IsToRecord, Stands, StandsIn}
+use Rattle.link_turn.specs.Talk.{AreReadings, MayLeave}
 use Rattle.link_turn.specs.Turn.{IsOf, IsReading, HearsNoReport}
 use Rattle.link_turn.specs.TurnSteps.{MayDo}
-use Rattle.link_turn.specs.declared.end_cause.EndCause.{EndCause}
 use Rattle.link_turn.specs.declared.end_cause.EndCause.TheVariants as end_is
 use Rattle.link_turn.specs.declared.session.Phase.{Phase}
 use Rattle.link_turn.specs.declared.session.Phase.TheVariants.{Fresh, Listening, ComingUp, GivingBack, Taking, Leaving, Done}
@@ -51,7 +49,7 @@ use Rattle.link_turn.specs.declared.wish.Wish.{Wish}
 use Rattle.link_turn.specs.declared.wish.Wish.TheVariants as wish_is
 use Rattle.link_turn.proofs.Agreement.{held_is_leased, no_flight}
 use Rattle.link_turn.proofs.Chosen.{none_among}
-use Rattle.link_turn.proofs.Holding.{IsOfLink, IsOfThis, some_there, reading_is, in_order}
+use Rattle.link_turn.proofs.Holding.{IsOfLink, IsOfThis, reading_is, in_order}
 use Rattle.link_turn.proofs.LoggingIn.{comes_up_down}
 use Rattle.link_turn.proofs.Readings.{frame_of}
 

@@ -1,17 +1,16 @@
 -- A session that ended because the disk failed has its deed: the disk's count of faults rose.
-use Rattle.std.proofs.Common.{◌≡◌, ◌∙◌, refl, sym, ap, subst, ℕ, ◌<◌, ◌≤◌, Bool, true, false, cond, inl, inr, ◌⊎◌, List, [], ◌∷◌, ◌++◌, arith}
+use Rattle.std.proofs.Common.{◌≡◌, refl, sym, subst, ℕ, ◌≤◌, Bool, true, false, inl, inr, ◌⊎◌, List, [], ◌∷◌, arith}
 use Rattle.std.specs.Prelude.{Option, Some, None, Result, Ok, Err, ◌==◌}
 use Rattle.std.specs.Option.{option_map_or}
 use Rattle.std.proofs.lemmas.Bool.{cases_Bool}
 use Rattle.gate_entries.specs.declared.passing.Passing.{Passing}
 use Rattle.gate_entries.specs.declared.passing.Passing.TheVariants.{Took}
-use Rattle.gate_entries.specs.declared.recorded.Recorded.{Recorded}
 use Rattle.gate_model.specs.Lawful.{is_expired}
 use Rattle.gate_model.specs.Routing.{next}
 use Rattle.gate_model.specs.declared.reply.Refusal.{Refusal}
 use Rattle.gate_model.specs.declared.reply.Refusal.TheVariants as refusal_is
 use Rattle.gate_model.specs.declared.reply.Reply.{Reply}
-use Rattle.gate_store.specs.Deeds.{Performs, Passes, Takes, TakesNext, TakesMessage, Withholds, CountsFault, given_up, is_by_disk}
+use Rattle.gate_store.specs.Deeds.{Passes, TakesNext, TakesMessage, Withholds, CountsFault, is_by_disk}
 use Rattle.gate_store.specs.Store.{disk_in, rules_in, state_in}
 use Rattle.gate_store.specs.declared.store.Store.{Store}
 use Rattle.gate_store.specs.declared.taken.Taken.{Taken}
@@ -26,10 +25,9 @@ use Rattle.link_core.specs.declared.verdict.Verdict.TheVariants.{Good, Temporary
 use Rattle.store_disk.specs.Story.{Story}
 use Rattle.link_turn.specs.Steps.{Step, hears, says, records, passes, takes, leaves, Deed, performed, passed, took, deeds_in}
 use Rattle.link_turn.specs.Back.{open_login, in_use, message_under, before_end}
-use Rattle.link_turn.specs.Due.{Due, nothing, log_in, come_up, acknowledge, reject, give_back, report, arrive, send, say, over, left, due, due_by, due_by_code, due_by_login, due_by_verdict, due_by_said, due_by_entry, due_by_outcome, due_by_taken, answer_to, answer_to_refused, end_by}
+use Rattle.link_turn.specs.Due.{Due, nothing, log_in, give_back, send, over, left, due, due_by, due_by_code, due_by_login, due_by_verdict, due_by_said, due_by_entry, due_by_outcome, due_by_taken, answer_to, answer_to_refused}
 use Rattle.link_turn.specs.Talk.{LinkTalk}
 use Rattle.link_turn.specs.Turn.{Leads}
-use Rattle.link_turn.specs.declared.end_cause.EndCause.{EndCause}
 use Rattle.link_turn.specs.declared.end_cause.EndCause.TheVariants as end_is
 use Rattle.link_turn.specs.declared.submitted.Asked.{Asked}
 use Rattle.link_turn.specs.declared.terms.Terms.{Terms}

@@ -1,18 +1,15 @@
 -- What came of a wish fits it.
-use Rattle.std.proofs.Common.{◌≡◌, ◌≢◌, ◌∙◌, refl, sym, ap, subst, ℕ, ◌+◌, ◌*◌, ◌<◌, ◌≤◌, ◌^◌, Bool, true, false, inl, inr, ◌⊎◌, List, [], ◌∷◌, ◌++◌, arith}
-use Rattle.std.specs.Prelude.{⊤, Option, Some, None, Result, Ok, Err, option_map, is_some, slice_get}
+use Rattle.std.proofs.Common.{◌≡◌, ◌∙◌, refl, sym, ap, subst, ℕ, ◌+◌, ◌≤◌, Bool, true, inl, inr, List, arith}
+use Rattle.std.specs.Prelude.{Option, Some, None, Result, Ok, Err, option_map, is_some, slice_get}
 use Rattle.std.specs.Option.{option_and_then}
-use Rattle.gate_entries.specs.declared.passing.Passing.{Passing}
 use Rattle.gate_model.proofs.FatesLaws.{held_below}
 use Rattle.gate_model.specs.Fold.{sms_of}
 use Rattle.gate_model.specs.Gate.{lease_under}
-use Rattle.gate_model.specs.Lawful.{MayTake}
-use Rattle.gate_model.specs.Numbers.{value_under, is_held}
-use Rattle.gate_model.specs.Routing.{next, due_time}
-use Rattle.gate_model.specs.State.{State, flights}
+use Rattle.gate_model.specs.Routing.{next}
+use Rattle.gate_model.specs.State.{flights}
 use Rattle.gate_model.specs.declared.reply.Refusal.{Refusal}
 use Rattle.gate_model.specs.declared.waiting.Waiting.{Waiting}
-use Rattle.gate_store.specs.Deeds.{Takes, TakesNext, TakesMessage}
+use Rattle.gate_store.specs.Deeds.{Takes, TakesNext}
 use Rattle.gate_store.specs.Entries.{start, state_of}
 use Rattle.gate_store.specs.Store.{IsOpen, rules_in, state_in}
 use Rattle.gate_store.specs.declared.store.Store.{Store}
@@ -36,7 +33,6 @@ use Rattle.link_turn.specs.Session.{Talk, MayBeGiven, FitsPhase, messages}
 use Rattle.link_turn.specs.SessionSteps.{Stands, StandsIn}
 use Rattle.link_turn.specs.Turn.{IsOf, IsReading, IsLinkOf}
 use Rattle.link_turn.specs.TurnSteps.{Does, SaysSo}
-use Rattle.link_turn.specs.declared.end_cause.EndCause.{EndCause}
 use Rattle.link_turn.specs.declared.given.Given.{Given}
 use Rattle.link_turn.specs.declared.given.Given.TheVariants as given_is
 use Rattle.link_turn.specs.declared.session.Phase.{Phase}
@@ -47,7 +43,6 @@ use Rattle.link_turn.specs.declared.session.Session.{Session}
 use Rattle.link_turn.specs.declared.submitted.Submitted.{Submitted}
 use Rattle.link_turn.specs.declared.terms.Terms.{Terms}
 use Rattle.link_turn.specs.declared.wish.Wish.{Wish}
-use Rattle.link_turn.specs.declared.wish.Wish.TheVariants as wish_is
 use Rattle.link_turn.proofs.Chosen.{chosen_carries}
 use Rattle.link_turn.proofs.Holding.{next_waits}
 use Rattle.link_turn.proofs.Stored.{AreMessages, after_messages, settled_messages, message_of}

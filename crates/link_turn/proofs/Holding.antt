@@ -1,6 +1,6 @@
 -- What a link holds in a store behind each of its deeds.
-use Rattle.std.proofs.Common.{◌≡◌, ◌≢◌, ◌∙◌, refl, sym, ap, subst, ℕ, ◌<◌, ◌≤◌, ◌^◌, Bool, true, false, inl, inr, ◌⊎◌, List, [], ◌∷◌, ◌++◌, map, length, arith}
-use Rattle.std.specs.Prelude.{⊤, Option, Some, None, Result, Ok, Err, IsSomeAnd, IsTrue, slice_get, slice_set, nat_lt, find, ◌==◌}
+use Rattle.std.proofs.Common.{◌≡◌, ◌∙◌, refl, sym, ap, subst, ℕ, ◌<◌, ◌^◌, Bool, true, false, inl, inr, List, [], ◌∷◌, ◌++◌, length}
+use Rattle.std.specs.Prelude.{⊤, Option, Some, None, Result, Ok, Err, IsSomeAnd, slice_get, slice_set, nat_lt, find, ◌==◌}
 use Rattle.std.specs.Option.{option_and_then}
 use Rattle.std.proofs.lemmas.Bool.{lt-ltb, cases_Bool}
 use Rattle.gate_entries.specs.declared.passing.Passing.{Passing}
@@ -10,7 +10,7 @@ use Rattle.gate_entries.specs.declared.recorded.Recorded.{Recorded}
 use Rattle.gate_entries.specs.declared.recorded.Recorded.TheVariants as entry
 use Rattle.gate_model.specs.Fold.{does, recorded, passing as passing_entry, hears as hears_report}
 use Rattle.gate_model.specs.Gate.{lease_under}
-use Rattle.gate_model.specs.Lawful.{MayPass, MayTake, is_expired}
+use Rattle.gate_model.specs.Lawful.{MayTake, is_expired}
 use Rattle.gate_model.specs.Numbers.{value_under, with_changes}
 use Rattle.gate_model.specs.Routing.{next}
 use Rattle.gate_model.specs.Settling.{settle, free_waiting}
@@ -29,7 +29,7 @@ use Rattle.route_rules.specs.declared.rules.Rules.{Rules}
 use Rattle.sms_record.specs.declared.kind.Kind.{Kind}
 use Rattle.sms_record.specs.declared.kind.Kind.TheVariants as kind_is
 use Rattle.store_disk.specs.Story.{Story}
-use Rattle.link_turn.specs.Back.{held, is_up, IsAmong, held_recorded, held_taken, without_any, ended_by, given_back_by, up_passed}
+use Rattle.link_turn.specs.Back.{held, is_up, held_recorded, held_taken, without_any, ended_by, given_back_by, up_passed}
 use Rattle.link_turn.specs.Steps.{Step, hears, says, records, passes, takes, leaves, Deed, performed, passed, took, deeds_in}
 use Rattle.link_turn.specs.Turn.{IsOf, IsReading}
 use Rattle.link_turn.proofs.Agreement.{of_ended, of_expired, of_taken, of_returned, of_moved}

@@ -1,11 +1,10 @@
 -- The number by which a turn comes to its end falls with each wish that is done.
-use Rattle.std.proofs.Common.{◌≡◌, ◌∙◌, refl, sym, ap, subst, ℕ, ◌+◌, ◌*◌, ◌<◌, ◌≤◌, Bool, inl, inr, List, [], ◌∷◌, arith}
-use Rattle.std.specs.Prelude.{⊤, Option, Some, None, Result, Ok, Err}
-use Rattle.gate_entries.specs.declared.passing.Passing.{Passing}
+use Rattle.std.proofs.Common.{◌≡◌, refl, sym, subst, ℕ, ◌+◌, ◌*◌, ◌<◌, ◌≤◌, Bool, List, arith}
+use Rattle.std.specs.Prelude.{Option, Some, None, Result, Ok, Err}
 use Rattle.gate_entries.specs.declared.passing.Passing.TheVariants.{Up, Returned}
 use Rattle.gate_model.specs.State.{State}
 use Rattle.gate_model.specs.declared.reply.Refusal.{Refusal}
-use Rattle.gate_store.specs.Store.{IsOpen, rules_in, state_in}
+use Rattle.gate_store.specs.Store.{IsOpen, state_in}
 use Rattle.gate_store.specs.declared.store.Store.{Store}
 use Rattle.gate_store.specs.declared.taken.Taken.{Taken}
 use Rattle.kn_base.specs.Course.{Course}
@@ -16,21 +15,18 @@ use Rattle.link_turn.specs.Session.{Talk}
 use Rattle.link_turn.specs.SessionSteps.{Stands, StandsIn}
 use Rattle.link_turn.specs.Turn.{IsReading}
 use Rattle.link_turn.specs.TurnSteps.{Does, free_in, to_do, to_do_in}
-use Rattle.link_turn.specs.Weight.{weight, weight_in, GetsLighter, GetsLighterBehind, GetsLighterByTaken, cause_in, EndsFor, EndsBehind, EndsBy}
+use Rattle.link_turn.specs.Weight.{weight, GetsLighter, GetsLighterBehind, GetsLighterByTaken, cause_in, EndsBehind, EndsBy}
 use Rattle.link_turn.specs.declared.end_cause.EndCause.{EndCause}
 use Rattle.link_turn.specs.declared.given.Given.{Given}
-use Rattle.link_turn.specs.declared.given.Given.TheVariants as given_is
 use Rattle.link_turn.specs.declared.session.Phase.{Phase}
 use Rattle.link_turn.specs.declared.session.Phase.TheVariants.{Fresh, Listening, ComingUp, GivingBack, Taking, Leaving, Done}
 use Rattle.link_turn.specs.declared.session.Phase.TheVariants as phase_is
 use Rattle.link_turn.specs.declared.session.Session.{Session}
 use Rattle.link_turn.specs.declared.terms.Terms.{Terms}
 use Rattle.link_turn.specs.declared.wish.Wish.{Wish}
-use Rattle.link_turn.specs.declared.wish.Wish.TheVariants as wish_is
 use Rattle.link_turn.proofs.Doing.{IsOne}
-use Rattle.link_turn.proofs.Falling.{freed_by, taken_by, free_of, free_performed, free_passed, free_takes}
+use Rattle.link_turn.proofs.Falling.{taken_by, free_performed, free_passed, free_takes}
 use Rattle.link_turn.proofs.Fitting.{Spoke, said_all, faulted, starved, spoke_so}
-use Rattle.link_turn.proofs.Holding.{IsOfLink, IsOfThis}
 
 module _ {C : Type 0} where
   at_most_in : (phase : Phase) (s : Session C) (state : State) → to_do_in phase s state ≤ 3 * free_in state.waiting + weight s

@@ -1,5 +1,5 @@
 -- A login waits for its answer only while its link is down.
-use Rattle.std.proofs.Common.{◌≡◌, ◌∙◌, refl, sym, ap, subst, ℕ, Bool, true, false, cond, inl, inr, List, [], ◌∷◌}
+use Rattle.std.proofs.Common.{◌≡◌, ◌∙◌, refl, sym, ap, subst, ℕ, true, false, inl, inr, List, [], ◌∷◌}
 use Rattle.std.specs.Prelude.{Option, Some, None, Result, Ok, Err, ◌==◌}
 use Rattle.std.specs.Option.{option_map_or}
 use Rattle.std.proofs.lemmas.Bool.{cases_Bool, false≢true}
@@ -18,8 +18,8 @@ use Rattle.link_core.specs.declared.verdict.Verdict.{Verdict}
 use Rattle.link_core.specs.declared.verdict.Verdict.TheVariants.{Good, Temporary, Permanent}
 use Rattle.link_turn.specs.Steps.{Step, hears, says, records, passes, takes, leaves}
 use Rattle.link_turn.specs.Back.{open_login, in_use, is_up, message_under, without_login, login_heard, login_said, up_passed}
-use Rattle.link_turn.specs.Due.{Due, nothing, log_in, come_up, acknowledge, reject, give_back, report, arrive, send, say, over, left, due, due_by, due_by_code, due_by_login, due_by_verdict, due_by_said, due_by_entry, due_by_outcome, due_by_taken, answer_to, answer_to_refused, passing_for, out_for}
-use Rattle.link_turn.specs.Talk.{AreSteps, MayLeave}
+use Rattle.link_turn.specs.Due.{Due, nothing, log_in, come_up, acknowledge, reject, give_back, report, arrive, send, say, over, left, due, due_by, due_by_code, due_by_login, due_by_verdict, due_by_said, due_by_entry, due_by_taken, answer_to, answer_to_refused, passing_for, out_for}
+use Rattle.link_turn.specs.Talk.{AreSteps}
 use Rattle.link_turn.specs.declared.submitted.Asked.{Asked}
 use Rattle.link_turn.specs.declared.terms.Terms.{Terms}
 

@@ -1,23 +1,22 @@
 -- A talk goes on, step by step and turn by turn.
-use Rattle.std.proofs.Common.{◌≡◌, ◌∙◌, refl, sym, ap, subst, ℕ, ◌+◌, ◌<◌, ◌≤◌, Bool, true, false, inl, inr, ◌⊎◌, List, [], ◌∷◌, ◌++◌, length, take, All, arith, append_assoc}
-use Rattle.std.specs.Prelude.{⊤, Option, Some, None, Result, Ok, Err, IfSome}
+use Rattle.std.proofs.Common.{◌≡◌, ◌∙◌, refl, sym, ap, subst, ℕ, Bool, true, false, inl, inr, List, [], ◌∷◌, ◌++◌, take, arith, append_assoc}
+use Rattle.std.specs.Prelude.{Option, Some, None}
 use Rattle.std.proofs.lemmas.List.{append-nil}
 use Rattle.std.proofs.lemmas.List.Elements.{All-nil, All-cons, All-append}
-use Rattle.gate_store.specs.Deeds.{Performs, Passes, Takes}
 use Rattle.gate_store.specs.declared.store.Store.{Store}
 use Rattle.kn_base.specs.Clock.{Adds}
-use Rattle.kn_base.specs.Count.{Counts, Rose}
+use Rattle.kn_base.specs.Count.{Counts}
 use Rattle.kn_base.specs.Course.{Course, with_more, Fails, IsQuiet, Ends}
-use Rattle.kn_base.specs.Talk.{said_of, heard_of, SaysAll, SaysFront}
+use Rattle.kn_base.specs.Talk.{said_of, heard_of}
 use Rattle.kn_base.specs.declared.piece.Piece.{Piece}
 use Rattle.kn_base.specs.declared.piece.Piece.TheVariants as piece_is
 use Rattle.kn_base.proofs.Talks.{said_of-append, heard_of-append, with_more-nil, with_more-with_more}
 use Rattle.link_core.specs.declared.out.Out.{Out}
 use Rattle.store_disk.specs.Story.{Story}
-use Rattle.link_turn.specs.Session.{Talk, GoesOn, spoken_in, heard_by, spoken_by, deeds_by, MayBeCut, IsCutShort}
+use Rattle.link_turn.specs.Session.{Talk, GoesOn, spoken_in, heard_by, spoken_by, deeds_by, MayBeCut}
 use Rattle.link_turn.specs.Steps.{Deed, performed, passed, took, deeds_in}
 use Rattle.link_turn.specs.Turn.{IsReading, NoneFell, Reads, Leads, TalksOn}
-use Rattle.link_turn.specs.TurnSteps.{Does, SaysSo, HearsSo, BeginsWith}
+use Rattle.link_turn.specs.TurnSteps.{Does, HearsSo, BeginsWith}
 use Rattle.link_turn.specs.declared.given.Given.{Given}
 use Rattle.link_turn.specs.declared.given.Given.TheVariants as given_is
 use Rattle.link_turn.specs.declared.wish.Wish.{Wish}

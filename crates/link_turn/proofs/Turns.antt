@@ -1,30 +1,24 @@
 -- A turn begins, and comes to its end.
-use Rattle.std.proofs.Common.{◌≡◌, ◌∙◌, refl, sym, ap, subst, ℕ, ◌+◌, ◌<◌, ◌≤◌, Bool, true, false, inl, inr, ◌⊎◌, List, [], ◌∷◌, ◌++◌, length, All, arith, length-append}
-use Rattle.std.specs.Prelude.{⊤, Option, Some, None, Result, IfSome}
-use Rattle.std.proofs.lemmas.List.{append-nil}
+use Rattle.std.proofs.Common.{◌≡◌, ◌∙◌, refl, sym, ap, subst, ℕ, ◌+◌, ◌≤◌, Bool, true, false, inl, List, [], ◌∷◌, ◌++◌, length, All, length-append}
+use Rattle.std.specs.Prelude.{Option, Some, None}
 use Rattle.std.proofs.lemmas.List.Elements.{All-nil, All-cons, All-append}
-use Rattle.gate_model.specs.Gate.{HaveIds}
-use Rattle.gate_store.specs.Store.{IsOpen, rules_in, state_in}
+use Rattle.gate_store.specs.Store.{rules_in, state_in}
 use Rattle.gate_store.specs.declared.store.Store.{Store}
 use Rattle.kn_base.specs.Clock.{Adds}
-use Rattle.kn_base.specs.Count.{Counts, Rose}
-use Rattle.kn_base.specs.Course.{Course, Fails, IsQuiet, Ends}
-use Rattle.link_core.specs.Grammar.{IsFrame, HasFirst}
+use Rattle.kn_base.specs.Course.{Course}
 use Rattle.link_core.specs.declared.heard.Heard.{Heard}
 use Rattle.link_core.specs.declared.out.Out.{Out}
 use Rattle.route_rules.specs.declared.link_kind.LinkKind.{LinkKind}
 use Rattle.store_disk.specs.Story.{Story}
 use Rattle.gate_entries.specs.declared.passing.Passing.TheVariants.{Up, Returned}
 use Rattle.link_turn.specs.Back.{held, is_up}
-use Rattle.link_turn.specs.Session.{Talk, no_talk, FitsPhase, GoesOn, IsFresh, IsNew, IsSession, MayBeRecorded, MayBeCut, Rests, deeds_by, heard_by, messages, now_of, spoken_in, terms_of, used_by}
-use Rattle.link_turn.specs.SessionSteps.{Frames, IsOver, IsReady, Stands, StandsIn, StandsOn}
-use Rattle.link_turn.specs.Steps.{Step, Deed, deeds_in}
+use Rattle.link_turn.specs.Session.{Talk, FitsPhase, IsFresh, IsSession, MayBeRecorded, MayBeCut, Rests, heard_by, messages, now_of, spoken_in, terms_of, used_by}
+use Rattle.link_turn.specs.SessionSteps.{IsOver, IsReady, Stands, StandsIn}
+use Rattle.link_turn.specs.Steps.{deeds_in}
 use Rattle.link_turn.specs.Talk.{LinkTalk}
-use Rattle.link_turn.specs.Turn.{IsOf, IsReading, IsLinkOf, MayTurn, MayTurnAgain, WasLed, CountsTurn, TalksOn, StandsBehindTurn, Turning}
-use Rattle.link_turn.specs.TurnSteps.{BeginsWith, HearsSo, CountsEnd, CountsCause, CarriedOn, Carries, StandsAtEnd, IsDone, IsEnd, IsToStop, Wishes}
-use Rattle.link_turn.specs.Weight.{cause_in, IsOwn, EndsBy, EndsFor, EndsItself}
+use Rattle.link_turn.specs.Turn.{IsOf, IsReading, IsLinkOf, MayTurn, MayTurnAgain, StandsBehindTurn, Turning}
+use Rattle.link_turn.specs.TurnSteps.{BeginsWith, HearsSo, CarriedOn, StandsAtEnd, IsDone, Wishes}
 use Rattle.link_turn.specs.declared.end_cause.EndCause.{EndCause}
-use Rattle.link_turn.specs.declared.end_cause.EndCause.TheVariants as end_is
 use Rattle.link_turn.specs.declared.given.Given.{Given}
 use Rattle.link_turn.specs.declared.given.Given.TheVariants as given_is
 use Rattle.link_turn.specs.declared.session.Phase.{Phase}
@@ -37,9 +31,8 @@ use Rattle.link_turn.specs.declared.turned.Turned.TheVariants.{On, Ended}
 use Rattle.link_turn.specs.declared.wish.Wish.{Wish}
 use Rattle.link_turn.specs.declared.wish.Wish.TheVariants as wish_is
 use Rattle.link_turn.proofs.Carrying.{Law, begun_in, terms_same}
-use Rattle.link_turn.proofs.Causing.{fault_rose}
 use Rattle.link_turn.proofs.Holding.{held_in, up_in, held_is, up_is}
-use Rattle.link_turn.proofs.TalkingOn.{Comes, comes_first, talks_then, talks_by}
+use Rattle.link_turn.proofs.TalkingOn.{comes_first, talks_then, talks_by}
 
 module _ {C : Type 0} (hears_so : List ℕ → Heard → Type 0) (refuses : List ℕ → ℕ → ℕ → Type 0) (said : C → Out → List ℕ) (core : C) (terms : Terms) where
   -- ---- a session that listens, and one that is over

@@ -1,11 +1,12 @@
 -- How much a session has still to do, where something of it changes.
-use Rattle.std.proofs.Common.{◌≡◌, ◌∙◌, refl, sym, ap, subst, ℕ, suc, ◌+◌, ◌*◌, ◌<◌, ◌≤◌, ◌-◌, Bool, true, false, not, nat_lt, nat_le, List, [], ◌∷◌, length, take, drop, arith, length-drop, length-take, inl, inr}
+use Rattle.std.proofs.Common.{◌≡◌, ◌∙◌, refl, sym, ap, subst, ℕ, zero, suc, ◌+◌, ◌<◌, ◌≤◌, ◌-◌, Bool, true, false, not, nat_lt, nat_le, List, ◌∷◌, length, take, drop, arith, length-drop, inl, inr}
 use Rattle.std.specs.Prelude.{Option, Some, None, IfSome, ◌⊎◌, ◌&&◌}
 use Rattle.std.proofs.lemmas.Bool.{and_parts, false≢true, ltb-true, leb-true}
+use Rattle.std.proofs.lemmas.List.{length-take-le}
 use Rattle.link_core.specs.Grammar.{IsGrammar}
 use Rattle.link_core.specs.declared.heard.Heard.{Heard}
 use Rattle.link_turn.specs.SessionSteps.{message_said, message_in}
-use Rattle.link_turn.specs.Weight.{one_if, one_unless, count_of, weight_saying, weight_in, weight, load, weight_left, IsOwn, EndsFor, EndsItself, EndsBehind, GetsLighterBehind}
+use Rattle.link_turn.specs.Weight.{one_if, count_of, weight_saying, weight_in, weight, load, weight_left, IsOwn, EndsFor, EndsItself, EndsBehind, GetsLighterBehind}
 use Rattle.link_turn.specs.declared.end_cause.EndCause.{EndCause}
 use Rattle.link_turn.specs.declared.session.Phase.{Phase}
 use Rattle.link_turn.specs.declared.session.Phase.TheVariants.{Fresh, Listening, ComingUp, GivingBack, Taking, Leaving, Done}
@@ -137,14 +138,14 @@ module _ {C : Type 0} where
   pub down_left : (cause : EndCause) (old new : Session C) → new ≡ old → old.phase ≡ Leaving cause None → new.up ≡ true → weight (record new { up = false }) ≤ weight_left None old
   down_left cause old new same is up =
       let phase : new.phase ≡ Leaving cause None = ap (λ (s : Session C). s.phase) same ∙ is in
-      let all : weight (record new { up = false }) ≡ length new.in_use.items + 1 = ap (λ (p : Phase). weight_in p (record new { up = false })) phase in
+      let all : weight (record new { up = false }) ≡ length new.in_use.items + 0 + 0 + 1 = ap (λ (p : Phase). weight_in p (record new { up = false })) phase in
       let was : one_if new.up ≡ 1 = ap one_if up in
       let left : weight_left None new ≡ weight_left None old = ap (weight_left None) same in
       omega (arith, all, was, left)
 
 -- a frame has an octet
 pub frame_some : (hears : List ℕ → Heard → Type 0) (holds : ℕ → Type 0) (most len : ℕ) (octets : List ℕ) (heard : Heard) → IsGrammar hears holds most → hears (take len octets) heard → 0 < len
-frame_some hears holds most 0 octets heard grammar is = let some : 0 < length (take 0 octets) = grammar.some (take 0 octets) heard is in absurd (omega (arith, some, length-take 0 octets))
+frame_some hears holds most zero octets heard grammar is = let some : 0 < length (take zero octets) = grammar.some (take zero octets) heard is in absurd (omega (arith, some, length-take-le zero octets (omega arith)))
 frame_some hears holds most (suc len) octets heard grammar is = omega arith
 
 -- who has just said something wasn't silent

@@ -1,5 +1,5 @@
 -- A turn of a session over a peer and a store: what it needs, what it does to them, and what came of it.
-use Rattle.std.specs.Prelude.{◌≡◌, ◌≢◌, ◌↔◌, ◌⊎◌, ⊤, ℕ, ◌+◌, ◌<◌, ◌≤◌, ◌^◌, Bool, true, false, List, [], ◌∷◌, ◌++◌, length, All, IfSome, Option, Some, None, slice_get}
+use Rattle.std.specs.Prelude.{◌≡◌, ◌↔◌, ◌⊎◌, ⊤, ℕ, ◌+◌, ◌<◌, ◌≤◌, ◌^◌, Bool, true, false, List, [], ◌∷◌, ◌++◌, length, All, IfSome, Option, Some, slice_get}
 use Rattle.gate_model.specs.Gate.{HaveIds, lease_under}
 use Rattle.gate_model.specs.State.{State}
 use Rattle.gate_store.specs.Deeds.{Performs, Passes, Takes}
@@ -18,11 +18,10 @@ use Rattle.route_rules.specs.declared.rules.Rules.{Rules}
 use Rattle.sms_record.specs.declared.kind.Kind.{Kind}
 use Rattle.store_disk.specs.Story.{Story}
 use Rattle.link_turn.specs.Back.{IsAmong}
-use Rattle.link_turn.specs.Steps.{Step, Deed, performed, passed, took, deeds_in}
+use Rattle.link_turn.specs.Steps.{Deed, performed, passed, took, deeds_in}
 use Rattle.link_turn.specs.Session.{Talk, IsFresh, IsSession, Rests, messages, used_by, terms_of, now_of, spoken_in}
 use Rattle.link_turn.specs.SessionSteps.{Stands}
 use Rattle.link_turn.specs.Talk.{LinkTalk}
-use Rattle.link_turn.specs.declared.end_cause.EndCause.{EndCause}
 use Rattle.link_turn.specs.declared.end_cause.EndCause.TheVariants as end_is
 use Rattle.link_turn.specs.declared.session.Session.{Session}
 use Rattle.link_turn.specs.declared.terms.Terms.{Terms}

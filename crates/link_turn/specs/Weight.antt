@@ -1,5 +1,5 @@
 -- How much a session has still to do by itself, and what its end comes of. By these a turn comes to its end, and for its cause.
-use Rattle.std.specs.Prelude.{◌≡◌, ⊤, ℕ, ◌+◌, ◌*◌, ◌<◌, ◌≤◌, Bool, true, false, length, Option, Some, None, IfSome, Result, Ok, Err, if◌then◌else◌}
+use Rattle.std.specs.Prelude.{◌≡◌, ⊤, ℕ, ◌+◌, ◌*◌, ◌<◌, ◌≤◌, Bool, length, Option, Some, None, IfSome, Result, Ok, Err, if◌then◌else◌}
 use Rattle.gate_model.specs.declared.reply.Refusal.{Refusal}
 use Rattle.gate_store.specs.declared.taken.Taken.{Taken}
 use Rattle.link_turn.specs.declared.end_cause.EndCause.{EndCause}

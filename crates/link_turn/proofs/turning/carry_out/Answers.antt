@@ -1,4 +1,4 @@
-use Rattle.std.proofs.Common.{◌≡◌, ◌≤◌, ◌∙◌, refl, sym, ap, subst, ℕ, arith}
+use Rattle.std.proofs.Common.{◌≤◌, ◌∙◌, refl, sym, ap, subst, ℕ, arith}
 use Rattle.link_turn.specs.Session.{now_of}
 use Rattle.link_turn.specs.TurnSteps.{Wishes}
 use Rattle.link_turn.specs.Weight.{cause_in}

@@ -1,10 +1,10 @@
-use Rattle.std.proofs.Common.{◌≡◌, ◌≤◌, ◌∙◌, refl, sym, subst, ℕ, arith}
-use Rattle.std.specs.Prelude.{Option, Some, None}
+use Rattle.std.proofs.Common.{◌≤◌, ◌∙◌, refl, sym, subst, ℕ, arith}
+use Rattle.std.specs.Prelude.{Option}
 use Rattle.link_turn.specs.Session.{now_of}
 use Rattle.link_turn.specs.TurnSteps.{IsDone, Wishes}
 use Rattle.link_turn.specs.declared.end_cause.EndCause.{EndCause}
 use Rattle.link_turn.specs.declared.turned.Turned.TheVariants.{On, Ended}
-use Rattle.link_turn.proofs.Turns.{IsTurned, again_ended, again_on, terms_first, turning, wishes_first}
+use Rattle.link_turn.proofs.Turns.{IsTurned, again_ended, terms_first, turning, wishes_first}
 use Rattle.link_turn.proofs.turning.turn_solo.Goals as goal
 
 pub carry_out-requires-clause-wishes : goal.carry_out-requires-clause-wishes

@@ -1,11 +1,11 @@
-use Rattle.std.proofs.Common.{List, ℕ, [], ◌∷◌, subst, refl, arith, inl, inr}
+use Rattle.std.proofs.Common.{List, ℕ, [], ◌∷◌, ◌∙◌, ap, subst, refl, arith, inl, inr}
 use Rattle.std.specs.Prelude.{Option}
 use Rattle.link_turn.specs.declared.wish.Wish.{Wish}
 use Rattle.link_core.specs.Grammar.{Tells}
 use Rattle.link_core.specs.declared.framed.Framed.{Framed}
 use Rattle.link_core.specs.declared.framed.Framed.TheVariants as framed
 use Rattle.link_turn.specs.Steps.{hears}
-use Rattle.link_turn.specs.Session.{IsWishedThen}
+use Rattle.link_turn.specs.Session.{IsWishedThen, now_of}
 use Rattle.link_turn.specs.declared.end_cause.EndCause.TheVariants as end_is
 use Rattle.link_turn.specs.SessionSteps.{StandsThen, with_step, with_handled}
 use Rattle.link_turn.specs.Weight.{WeighsThen, EndsItselfThen}
@@ -15,7 +15,7 @@ use Rattle.link_turn.proofs.Looking.{faces, ends_idle, idle_here, none_has_none}
 use Rattle.link_turn.proofs.session.Session.look.Goals as goal
 
 pub loop-heard-init : goal.loop-heard-init
-loop-heard-init g c = record { well = c.requires.well; lighter = inl refl; law = λ core terms talk ready frames. ([], ready, frames) }
+loop-heard-init g c = record { well = c.requires.well; latest = refl; lighter = inl refl; law = λ core terms talk ready frames. ([], ready, frames) }
 
 pub returns-in-Ok-NeedMore-clause-law : goal.returns-in-Ok-NeedMore-clause-law
 returns-in-Ok-NeedMore-clause-law g c = λ core terms talk ready frames.
@@ -71,6 +71,7 @@ returns-in-Some-clause-ends g c = subst (λ (o : Option Wish). EndsItselfThen o 
 pub loop-heard-preserved : goal.loop-heard-preserved
 loop-heard-preserved g c = record {
   well = subst (λ (o : Option Wish). IsWishedThen g.C.LinkCore.tags g.C.LinkCore.next_tag g.C.LinkCore.holds g.C.LinkCore.hears g.C.LinkCore.most o c.handle.new.self) c.in_default.is c.handle.ensures.wished;
+  latest = c.handle.ensures.latest ∙ ap now_of c.drop_front.ensures ∙ c.loop-heard.invariant.latest;
   lighter =
       let told = subst (λ (o : List ℕ). Tells g.C.LinkCore.hears g.C.LinkCore.refuses o (framed.Whole c.in-Ok-Whole.heard c.in-Ok-Whole.len)) c.as_slice.ensures
       (subst (λ (x : Framed). Tells g.C.LinkCore.hears g.C.LinkCore.refuses c.as_slice.result.now x) c.in-Ok-Whole.field-0-is c.in-Ok-Whole.ensures.read.told) in
@@ -121,3 +122,6 @@ returns-in-Err-clause-spoke g c = λ spoke.
     let less = handled_weighs c.args.self.now c.loop-heard.self c.loop-heard.invariant.lighter in
     let left = c.end-in-Err.ensures.lighter in
     omega (arith, less, left)
+
+pub returns-in-Some-clause-latest : goal.returns-in-Some-clause-latest
+returns-in-Some-clause-latest g c = c.handle.ensures.latest ∙ ap now_of c.drop_front.ensures ∙ c.loop-heard.invariant.latest

@@ -1,7 +1,7 @@
 use Rattle.std.proofs.Common.{◌≡◌, ◌+◌, ◌≤◌, List, length}
 use Rattle.std.specs.Prelude.{◌⊎◌}
 use Rattle.link_core.specs.declared.heard.Heard.{Heard}
-use Rattle.link_turn.specs.Session.{IsWell}
+use Rattle.link_turn.specs.Session.{IsWell, now_of}
 use Rattle.link_turn.specs.SessionSteps.{Always, IsReady, Frames, with_handled}
 use Rattle.link_turn.specs.Weight.{load}
 use Rattle.link_turn.proofs.session.Session.look.Given as goal
@@ -14,6 +14,7 @@ invariant-loop-heard g l =
     let said = g.C.LinkCore.said in
     record {
       well : IsWell g.C.LinkCore.tags g.C.LinkCore.next_tag l.self;
+      latest : now_of l.self ≡ now_of l.initial.self;
       lighter : (l.self ≡ l.initial.self) ⊎ (load l.self + 8 ≤ load l.initial.self);
       law : Always (λ core terms talk. IsReady hears refuses said core terms talk l.initial.self → Frames hears refuses said core terms talk l.initial.self
           → (heards : List Heard) × IsReady hears refuses said core terms (with_handled heards talk) l.self × Frames hears refuses said core terms (with_handled heards talk) l.self);
