@@ -61,7 +61,7 @@ each_at P xs at x all there =
     subst P (get_or_from_slice_get xs at x x there) (All-get_or P xs at x (slice_get_within xs at x there) all)
 
 some_of : {A : Type 0} (it : Option A) (x : A) (P : A → Type 0) → it ≡ Some x → IsSomeAnd it P → P x
-some_of it x P is some = subst (λ (o : Option _). IsSomeAnd o P) is some
+some_of {A} it x P is some = subst (λ (o : Option A). IsSomeAnd o P) is some
 
 pair_at : (rules : List LinkRule) (links : List LinkSettings) (at : ℕ) (rule : LinkRule) (link : LinkSettings) → AllZip IsPair rules links
     → slice_get rules at ≡ Some rule → slice_get links at ≡ Some link → IsPair rule link

@@ -4,6 +4,7 @@ use Rattle.std.specs.Prelude.{IfSome}
 use Rattle.std.specs.Bool.{OnTrue}
 use Rattle.std.proofs.lemmas.List.{append-nil}
 use Rattle.kn_base.specs.Count.{Rose}
+use Rattle.gate_entries.specs.declared.passing.Passing.{Passing}
 use Rattle.gate_entries.specs.declared.passing.Passing.TheVariants.{Took}
 use Rattle.gate_entries.specs.declared.recorded.Recorded.{Recorded}
 use Rattle.gate_model.specs.Fold.{does, recorded}
@@ -78,7 +79,7 @@ module _ {D : Type 0} (tells : Bool) (story : D → Story) (faults calls : D →
     none = none;
   }
 
-  passes_stays : (deed : Deed) (old new : Store D) (brief : _) → Passes tells story faults calls old brief new → recorded_by rules link deed ≡ [] → Stays deed old new
+  passes_stays : (deed : Deed) (old new : Store D) (brief : Passing) → Passes tells story faults calls old brief new → recorded_by rules link deed ≡ [] → Stays deed old new
   passes_stays deed old new brief is none = record { ruled = is.ruled; disk = is.disk; unsure = is.unsure; holds = is.holds; none = none }
 
   withheld : (late : Bool) (old new : Store D) (now message : ℕ) (refusal : Refusal) → rules_in old ≡ rules

@@ -7,8 +7,8 @@ use Rattle.boxes_main.specs.LinkSteps.{KeepsOn, remaining}
 use Rattle.boxes_main.proofs.link_session.take_turns.Given as goal
 
 -- the session may have a turn, and whatever it began with, it goes on from there
-abbrev pub invariant-loop-session : goal.invariant-loop-session
-invariant-loop-session g l =
+abbrev pub invariant-loop-heard : goal.invariant-loop-heard
+invariant-loop-heard g l =
     let course = g.P.Meter.course in
     let readings = g.K.Clock.readings in record {
       may : MayTurn g.C.LinkCore.tags g.C.LinkCore.next_tag g.C.LinkCore.holds g.C.LinkCore.kind g.C.LinkCore.hears g.C.LinkCore.refuses g.C.LinkCore.said g.D.Disk.tells g.D.Disk.story l.session l.store (g.K.Clock.latest l.clock);
@@ -18,5 +18,5 @@ invariant-loop-session g l =
           l.session (course l.peer) (readings l.clock) l.store l.progress;
     }
 
-abbrev pub decreases-loop-session : goal.decreases-loop-session
-decreases-loop-session g l = remaining l.progress
+abbrev pub decreases-loop-heard : goal.decreases-loop-heard
+decreases-loop-heard g l = remaining l.progress
