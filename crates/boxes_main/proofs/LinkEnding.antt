@@ -13,7 +13,7 @@ use Rattle.boxes_main.specs.Failure.{status_of}
 use Rattle.boxes_main.specs.House.{Rooms, Stock, MakesFor}
 use Rattle.boxes_main.specs.Link.{IsChosen, IsHeld, IsNotLinked, IsUndialled, Holds, DialsNone, ComesToLink}
 use Rattle.boxes_main.specs.LinkSteps.{Chooses, ChoosesNone, ChosenSo, EndsLink, IsChosenIn, IsLinked, ServedSo, ServesChosen, ServesLink}
-use Rattle.boxes_main.specs.Opening.{Reads}
+use Rattle.boxes_main.specs.Opening.{Reads, IsNoStore}
 use Rattle.boxes_main.specs.OpeningSteps.{OpensStore, OpensNone}
 use Rattle.boxes_main.specs.Worker.{Worker}
 use Rattle.boxes_main.specs.declared.failure.Failure.{Failure}
@@ -210,15 +210,16 @@ module _
   }
 
   -- there was no memory for the session
-  pub serves_no_memory : (status : ℕ) (failure : Option Failure) (workers : List (Worker C L))
-      → status ≡ status_of failure → failure ≡ Some (Store store_is.Memory) → workers ≡ []
-      → ServesChosen tells story faults calls readings_of dealings settings number old old before before status failure (None {A = D}) workers
-  serves_no_memory status failure workers right failed alone = record {
+  pub serves_no_memory : (status : ℕ) (failure : Option Failure) (disk : Option D) (workers : List (Worker C L))
+      → status ≡ status_of failure → failure ≡ Some (Store store_is.Memory) → disk ≡ None → workers ≡ []
+      → ServesChosen tells story faults calls readings_of dealings settings number old old before before status failure disk workers
+  serves_no_memory status failure disk workers right failed none alone = record {
     others = refl;
     right = right;
-    made = refl;
+    made = subst (λ (d : Option D). MakesFor d before before) (sym none) refl;
     so = λ centre linked.
-        subst (λ f. ChosenSo tells story faults calls readings_of dealings settings number centre before workers None f) (sym failed) (alone, refl);
+        subst (λ f. ChosenSo tells story faults calls readings_of dealings settings number centre before workers disk f) (sym failed)
+        (alone, subst (λ (d : Option D). IsNoStore tells story faults calls (before.disks settings.core.store_file) settings.rules d store_is.Memory) (sym none) refl);
   }
 
   served_chosen : (rule_centre centre : LinkSettings) (workers : List (Worker C L)) (disk : Option D) (failure : Option Failure)

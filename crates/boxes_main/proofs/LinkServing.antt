@@ -85,7 +85,7 @@ module _
     (may : MayBegin tells story session store) (new_session : IsNewSession number centre session)
     (same : disk ≡ disk_in after) (closes_as : ClosesAs tells story faults calls after disk) (closes_to : ClosesTo tells story faults calls after disk) where
   -- the worker that is left
-  worker_left : Option Held → Worker C L
+  abbrev pub worker_left : Option Held → Worker C L
   worker_left held = record { role = role_is.Link number; clock = Some clock_later; dialer = Some dialer_later; ends = ends_by held; pasts = pasts_by held }
 
   -- the link holds nothing before its session
@@ -99,7 +99,7 @@ module _
       (rules : Rules) (areas : Areas) (word : Option ℕ) (birth : ℕ) (found : D) (told : IsToldWord word birth)
       (new_disk : IsHouseDisk tells story faults calls areas found) (is : IsOpened tells story faults calls found rules birth store) where
     -- no connection was made
-    undialled : CallsNone (readings_of clock) (readings_of clock_later) store after (dealings dialer) (dealings dialer_later)
+    undialled : CallsNone Hears Refuses smpp.said tells story faults calls (readings_of clock) (readings_of clock_later) store after (dealings dialer) (dealings dialer_later)
         → Adds (asked_for centre.host centre.port) (dealings dialer).dials (dealings dialer_later).dials
         → IsUndialled tells story faults calls readings_of dealings rules number centre areas word (worker_left None ∷ []) (Some disk)
     undialled none dials = record {

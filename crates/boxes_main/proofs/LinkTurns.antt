@@ -1,8 +1,8 @@
 -- Turns of a link's session, one behind the other, up to its end.
-use Rattle.std.proofs.Common.{◌≡◌, ◌≤◌, ◌<◌, ◌+◌, ◌^◌, ◌-◌, ℕ, zero, suc, min, Bool, true, false, List, [], ◌∷◌, ◌++◌, length, All, Option, Some, None, inl, inr, ◌⊎◌, refl, ap, sym, ◌∙◌, append_assoc, arith, subst}
+use Rattle.std.proofs.Common.{◌≡◌, ◌≤◌, ◌<◌, ◌+◌, ◌^◌, ◌-◌, ℕ, zero, suc, min, Bool, true, false, List, [], ◌∷◌, ◌++◌, length, All, Option, Some, None, inl, inr, ⊎_elim, ◌⊎◌, refl, ap, sym, ◌∙◌, append_assoc, arith, subst}
 use Rattle.std.specs.Prelude.{IfSome, MatchOption, is_some, ◌==◌, if◌then◌else◌}
 use Rattle.std.proofs.Math.Nat.{min-le_left, le-min, min-le_right}
-use Rattle.std.proofs.lemmas.Bool.{cases_Bool}
+use Rattle.std.proofs.lemmas.Bool.{cases_Bool, eqb-true}
 use Rattle.std.proofs.lemmas.List.{append-nil, length-append}
 use Rattle.kn_base.specs.Count.{Counts, no_counts, Rose, last_count}
 use Rattle.kn_base.specs.Course.{Course, with_more}
@@ -55,9 +55,12 @@ rose_none now = omega arith
 -- the quiets in a row behind a turn
 quiets_behind : (progress : Progress) (heard before now : ℕ) → progress.quiets < quiets_limit → RoseBy progress.quiets 0 before
     → (0 < heard) ⊎ Rose before now → RoseBy (behind progress heard).quiets 0 now
-quiets_behind progress zero before now few rose (inl some) = absurd (omega (arith, some))
-quiets_behind progress zero before now few rose (inr one) = rose_more progress.quiets before now few rose one
-quiets_behind progress (suc heard) before now few rose which = rose_none now
+quiets_behind progress heard before now few rose which =
+    elim (cases_Bool (heard == 0)) [
+      | inl none ↦ rw none (⊎_elim (λ some. absurd (let e : heard ≡ 0 = eqb-true heard 0 none in omega (arith, some, e)))
+          (λ one. rose_more progress.quiets before now few rose one) which)
+      | inr other ↦ rw other (rose_none now)
+    ]
 
 -- fewer turns are to come behind a turn
 pub fewer_remain : (progress : Progress) (heard : ℕ) → progress.taken < octets_limit → progress.quiets < quiets_limit

@@ -10,7 +10,7 @@ use Rattle.smpp_link.specs.Hearing.{Hears, heard_of, replied, told}
 use Rattle.smpp_wire.specs.Command.{Fields, Bind, BindReply, Message, SubmitReply, DeliverReply, Nothing, Any, Command}
 use Rattle.smpp_wire.specs.declared.command.TheConstants.{GENERIC_NACK, SUBMIT_SM_RESP, DELIVER_SM, DELIVER_SM_RESP, UNBIND, UNBIND_RESP, BIND_TRANSCEIVER_RESP, ENQUIRE_LINK, ENQUIRE_LINK_RESP}
 
-says_report : Heard → Bool
+abbrev pub says_report : Heard → Bool
 says_report (heard_is.Report tag foreign kind text) = true
 says_report (heard_is.Login tag code) = false
 says_report (heard_is.Reply tag verdict) = false

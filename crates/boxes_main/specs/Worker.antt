@@ -17,7 +17,7 @@ pub record Worker (C L : Type 0) : Type 0 where
   pub pasts : List Past
 
 -- what is left in a house with these types
-abbrev pub worker_of : {H V D C L P S O E : Type 0} → WorkerEnd H V D C L P S O E → Worker C L
+abbrev pub worker_of : {H V D C L S O E P : Type 0} → WorkerEnd H V D C L S O E P → Worker C L
 worker_of left = record { role = left.role; clock = left.clock; dialer = left.dialer; ends = left.ends; pasts = left.pasts }
 
 -- a clock was read so and no more, where it tells that

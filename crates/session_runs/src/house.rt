@@ -2,6 +2,7 @@
 
 ghost use Rattle.std.specs.Prelude.{All, IfOk};
 ghost use Rattle.kn_base.specs.Course.{IsFresh};
+ghost use Rattle.kn_base.specs.MemCourse.{mem_course};
 
 use crate::case::Case;
 use boxes_main::MemHouse;
@@ -88,9 +89,10 @@ fn peers_of<P: Peer + Drop>(alloc: Global, case: Case, peer: P) -> Result<Vec<P>
     ensures { IfOk result (λ peers. All (λ peer. IsFresh (P.course peer)) peers.items) }
 {
     let mut peers = Vec::new(alloc);
-    if !case.no_peer {
-        peers.push(peer)?;
+    if case.no_peer {
+        return Ok(peers);
     }
+    peers.push(peer)?;
     Ok(peers)
 }
 
@@ -112,7 +114,9 @@ fn dialers_of<P: Peer + Drop>(
 }
 
 /// A peer that says nothing and takes all.
-pub fn sink(alloc: Global) -> MemPeer {
+pub fn sink(alloc: Global) -> MemPeer
+    ensures { IsFresh (mem_course result) }
+{
     MemPeer::new(alloc, Vec::new(alloc), Vec::new(alloc))
 }
 

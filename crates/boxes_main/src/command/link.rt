@@ -84,22 +84,22 @@ fn centre_of(settings: &Settings, link: u32) -> &LinkSettings
 fn serve<H: House>(
     alloc: Global,
     house: &mut H,
-    settings: Settings,
+    settings: &Settings,
     link: u32,
     room: Room<H>,
 ) -> Ended<H>
-    requires in_range { AreSettings settings }
-    requires there { steps.HasCentre settings link }
+    requires in_range { AreSettings settings.now }
+    requires there { steps.HasCentre settings.now link }
     requires room { HasRoom room.ends room.pasts room.workers }
-    ensures { steps.ServesChosen H.D.tells H.D.story H.D.faults H.D.calls H.C.readings H.Di.dealings settings link
+    ensures { steps.ServesChosen H.D.tells H.D.story H.D.faults H.D.calls H.C.readings H.Di.dealings settings.now link
         (H.rooms house.old) (H.rooms house.new) (H.stock house.old) (H.stock house.new)
         result.status result.failure result.disk (map worker_of result.workers) }
 {
-    let centre = centre_of(&settings, link);
+    let centre = centre_of(settings, link);
     let Ok(session) = new_session(alloc, link, centre) else {
         return unserved(alloc, Failure::Store(StoreFault::Memory), None);
     };
-    match open_store(alloc, house, &settings) {
+    match open_store(alloc, house, settings) {
         Ok(store) => serve_link(alloc, house, link, centre, session, store, room),
         Err(Unopened { failure, disk }) => unserved(alloc, failure, disk),
     }
@@ -118,7 +118,7 @@ fn run<H: House>(alloc: Global, words: &[Octets], house: &mut H) -> Ended<H>
         return unserved(alloc, Failure::Configuration(ConfigFault::Memory), None);
     };
     match chosen(alloc, house, configuration.as_slice(), id.as_slice()) {
-        Ok((settings, link)) => serve(alloc, house, settings, link, room),
+        Ok((settings, link)) => serve(alloc, house, &settings, link, room),
         Err(failure) => unserved(alloc, failure, None),
     }
 }

@@ -1,5 +1,6 @@
-use Rattle.std.proofs.Common.{◌≡◌, sym, subst, arith}
+use Rattle.std.proofs.Common.{◌≡◌, false, sym, subst, arith}
 use Rattle.std.specs.Prelude.{None}
+use Rattle.boxes_main.specs.declared.link_session.Progress.{Progress}
 use Rattle.boxes_main.proofs.LinkTurns.{begins_on, ends_so, goes_first}
 use Rattle.boxes_main.proofs.link_session.talk.Goals as goal
 
@@ -9,7 +10,7 @@ returns-in-On g c =
     let disk = g.D.Disk in
     let course = g.P.Meter.course in
     let readings = g.K.Clock.readings in
-    let zero = record { taken = 0; quiets = 0 } in
+    let zero : Progress = record { taken = 0; quiets = 0 } in
     λ co terms new.
         let first = course c.args.peer.now in
         let told = readings c.args.clock.now in
@@ -26,7 +27,7 @@ returns-in-Ended g c =
     let disk = g.D.Disk in
     let course = g.P.Meter.course in
     let readings = g.K.Clock.readings in
-    let zero = record { taken = 0; quiets = 0 } in
+    let zero : Progress = record { taken = 0; quiets = 0 } in
     λ co terms new.
         let first = course c.args.peer.now in
         let told = readings c.args.clock.now in

@@ -10,7 +10,6 @@ returns-in-Ok-chosen g c =
     let rooms = g.H.House.rooms in
     let stock = g.H.House.stock in
     let house = c.args.house.now in
-    let chosen = c.in-Ok-chosen.field-0 in
     let words = link_words (codes "link") c.args.words.now in
     let named : Some (c.as_slice.result.now, c.as_slice-2.result.now) ≡ words = search rules in
     subst (λ (ws : Option (List ℕ × List ℕ)). EndsLink g.H.S.Shelf.files g.H.S.Shelf.faults g.H.D.Disk.tells g.H.D.Disk.story g.H.D.Disk.faults g.H.D.Disk.calls g.H.C.Clock.readings
@@ -18,5 +17,5 @@ returns-in-Ok-chosen g c =
     (map worker_of c.serve.result.workers)) named
     (link_ends g.H.S.Shelf.files g.H.S.Shelf.faults g.H.D.Disk.tells g.H.D.Disk.story g.H.D.Disk.faults g.H.D.Disk.calls g.H.C.Clock.readings g.H.Di.Dialer.dealings
     c.as_slice.result.now c.as_slice-2.result.now (rooms house) (rooms c.chosen.new.house) (rooms c.serve.new.house) (stock house) (stock c.chosen.new.house) (stock c.serve.new.house)
-    chosen.0 chosen.1 c.serve.result.status c.serve.result.failure c.serve.result.disk (map worker_of c.serve.result.workers)
+    c.in-Ok-chosen.settings c.in-Ok-chosen.link c.serve.result.status c.serve.result.failure c.serve.result.disk (map worker_of c.serve.result.workers)
     c.chosen.ensures.rooms c.chosen.ensures.stock c.in-Ok-chosen.ensures.ok c.serve.ensures)
