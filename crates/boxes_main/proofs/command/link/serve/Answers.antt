@@ -1,4 +1,4 @@
-use Rattle.std.proofs.Common.{◌≡◌, ap, sym, subst, map}
+use Rattle.std.proofs.Common.{ap, sym, subst, map}
 use Rattle.boxes_main.specs.OpeningSteps.{OpensNone}
 use Rattle.boxes_main.specs.Worker.{worker_of}
 use Rattle.boxes_main.proofs.LinkChoice.{begins_over, login_in, range_in}
@@ -39,14 +39,14 @@ returns-in_default g c =
     (stock house) (stock house) (stock house) c.unserved.result.status c.unserved.result.failure c.unserved.result.disk (map worker_of c.unserved.result.workers)
     c.unserved.ensures.status c.unserved.ensures.failure c.unserved.ensures.disk (ap (λ ws. map worker_of ws) c.unserved.ensures.workers)
 
-pub returns : goal.returns
-returns g c =
+pub returns-in-Err : goal.returns-in-Err
+returns-in-Err g c =
     let rooms = g.H.House.rooms in
     let stock = g.H.House.stock in
     let disk = g.H.D.Disk in
     let house = c.args.house.now in
     let left = c.unserved-in-Err in
     serves_none disk.tells disk.story disk.faults disk.calls g.H.C.Clock.readings g.H.Di.Dialer.dealings c.args.settings.now c.args.link (rooms house) (rooms c.open_store.new.house) (rooms house)
-    (stock house) (stock c.open_store.new.house) (stock house) left.result.status left.result.failure left.result.disk (map worker_of left.result.workers) c.in-Err.failure
+    (stock house) (stock c.open_store.new.house) (stock house) left.result.status left.result.failure left.result.disk (map worker_of left.result.workers) c.in-Err.field-0.failure
     c.open_store.ensures.rooms left.ensures.status left.ensures.failure (ap (λ ws. map worker_of ws) left.ensures.workers)
-    (subst (λ d. OpensNone disk.tells disk.story disk.faults disk.calls c.args.settings.now (stock house) (stock c.open_store.new.house) c.in-Err.failure d) (sym left.ensures.disk) c.in-Err.ensures.err)
+    (subst (λ d. OpensNone disk.tells disk.story disk.faults disk.calls c.args.settings.now (stock house) (stock c.open_store.new.house) c.in-Err.field-0.failure d) (sym left.ensures.disk) c.in-Err.ensures.err)
