@@ -147,9 +147,9 @@ module _
     held_so : (held : Held) (between : Dealings) → Stays (dealings dialer).pasts between.pasts
         → Adds (asked_for centre.host centre.port) (dealings dialer).dials (dealings dialer_later).dials
         → HoldsWith Hears Refuses smpp.said tells story faults calls (bind_of centre) (terms_for number centre) (readings_of clock) (readings_of clock_later) store after
-            between (dealings dialer_later) held
+        between (dealings dialer_later) held
         → IsHeld tells story faults calls readings_of dealings rules number centre areas word (worker_left (Some held) ∷ []) (Some disk)
-            (link_fault (is_some (unsure_in after)) held.cause)
+        (link_fault (is_some (unsure_in after)) held.cause)
     held_so held between stays dials holds =
         let kept = kept_by tells story faults calls rules number areas word birth found store after holds.deeds disk told new_disk is holds.led holds.left same closes_as closes_to in
         record {
@@ -193,9 +193,9 @@ module _
 
     pub served_so : (held : Option Held)
         → Calls Hears Refuses smpp.said tells story faults calls (bind_of centre) (terms_for number centre) centre (readings_of clock) (readings_of clock_later) store after
-            (dealings dialer) (dealings dialer_later) held
+        (dealings dialer) (dealings dialer_later) held
         → ServedSo tells story faults calls readings_of dealings rules number centre areas word (worker_left held ∷ []) (Some disk)
-            (failure_by (is_some (unsure_in after)) held)
+        (failure_by (is_some (unsure_in after)) held)
     served_so None calls_ = undialled calls_.so calls_.dials
     served_so (Some held) calls_ =
         served_by (worker_left (Some held) ∷ []) (link_fault (is_some (unsure_in after)) held.cause) (held_so held calls_.between calls_.stays calls_.dials calls_.so)
@@ -205,7 +205,7 @@ module _
       → (status : ℕ) (failure : Option Failure) (held : Option Held) → status ≡ status_of failure → failure ≡ failure_by (is_some (unsure_in after)) held
       → (workers : List (Worker C L)) → workers ≡ worker_left held ∷ []
       → Calls Hears Refuses smpp.said tells story faults calls (bind_of centre) (terms_for number centre) centre (readings_of clock) (readings_of clock_later) store after
-          (dealings dialer) (dealings dialer_later) held
+      (dealings dialer) (dealings dialer_later) held
       → ServesLink tells story faults calls readings_of dealings number centre old new before later store status failure (Some disk) workers
   serves_link_by old mid new before between later first then_ stock_first stock_then status failure held right failed workers left calls_ = record {
     others = then_ ∙ first;

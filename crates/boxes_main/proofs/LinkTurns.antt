@@ -193,7 +193,7 @@ module _ {C : Type 0} (hears : List ℕ → Heard → Type 0) (refuses : List �
     ends_so limit cause is opened left counts turning =
         let more : turning.later.heard ≡ on.later.heard ++ heard_of turning.talks.pieces = turning.talks.heard in
         let len : length turning.later.heard ≡ length on.later.heard + length (heard_of turning.talks.pieces) =
-            ap length more ∙ length-append on.later.heard (heard_of turning.talks.pieces) in
+        ap length more ∙ length-append on.later.heard (heard_of turning.talks.pieces) in
         let some = on.heard in
         let heard : progress.taken ≤ length turning.later.heard = omega (arith, len, some) in
         record {

@@ -13,9 +13,13 @@ use kn_base::Octets;
 #[derive(Clone, Copy)]
 pub enum Command<'a> {
     /// Serves one connection over HTTP on standard input and output.
-    Door { configuration: &'a Octets },
+    Door {
+        configuration: &'a Octets,
+    },
     /// Prints what the store counts on standard output.
-    Show { configuration: &'a Octets },
+    Show {
+        configuration: &'a Octets,
+    },
     /// Holds one session of the first link with that id.
     Link {
         configuration: &'a Octets,

@@ -157,7 +157,10 @@ fn row(failure: &Failure) -> (u8, Line)
         Failure::Usage => (2, Line::Text(USAGE)),
         Failure::Configuration(fault) => configuration_row(fault),
         Failure::NoSuchLink => (3, Line::Text(b"boxes: configuration: no such link\n")),
-        Failure::KindNotBuilt => (3, Line::Text(b"boxes: configuration: link kind not built\n")),
+        Failure::KindNotBuilt => (
+            3,
+            Line::Text(b"boxes: configuration: link kind not built\n"),
+        ),
         Failure::NoStoreFile => (3, Line::Text(b"boxes: configuration: no store-file\n")),
         Failure::Store(fault) => store_row(fault),
         Failure::Session(SessionFault::Disk) => (5, Line::Text(DISK_FAULT)),

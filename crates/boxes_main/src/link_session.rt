@@ -333,14 +333,7 @@ pub(crate) fn serve_link<H: House>(
 {
     let mut store = store;
     let (mut clock, mut dialer) = (house.clock(), house.dialer());
-    let held = call(
-        alloc,
-        session,
-        &mut store,
-        &mut dialer,
-        &mut clock,
-        centre,
-    );
+    let held = call(alloc, session, &mut store, &mut dialer, &mut clock, centre);
     let failure = failure_of(is_unsure(&store), &held);
     Ended {
         status: status(&failure),

@@ -14,8 +14,12 @@ use store_disk::MemDisk;
 
 /// The configuration in front of the link's kind, between that and its further lines, and behind these.
 const FRONT: &[u8] = b"group = core\nstore-file = gate.store\n\ngroup = smsc\nsmsc = ";
-const MIDDLE: &[u8] = b"\nsmsc-id = main\nhost = 127.0.0.1\nport = 2775\nsmsc-username = gate\nsmsc-password = secret\n";
-const BEHIND: &[u8] = b"\n\ngroup = smsbox\nbearerbox-host = localhost\n\ngroup = sendsms-user\nusername = tester\npassword = foobar\n";
+
+const MIDDLE: &[u8] =
+    b"\nsmsc-id = main\nhost = 127.0.0.1\nport = 2775\nsmsc-username = gate\nsmsc-password = secret\n";
+
+const BEHIND: &[u8] =
+    b"\n\ngroup = smsbox\nbearerbox-host = localhost\n\ngroup = sendsms-user\nusername = tester\npassword = foobar\n";
 
 /// The name of its store.
 const STORE_FILE: &[u8] = b"gate.store";
@@ -32,7 +36,10 @@ fn text_of(alloc: Global, case: Case) -> Result<Octets, Memory> {
 
 /// The shelf with the configuration.
 fn shelf_of(alloc: Global, case: Case) -> Result<MemShelf, Memory> {
-    let (name, text) = both(Octets::from_slice(alloc, b"gate.conf"), text_of(alloc, case))?;
+    let (name, text) = both(
+        Octets::from_slice(alloc, b"gate.conf"),
+        text_of(alloc, case),
+    )?;
     let mut files = Vec::new(alloc);
     files.push((name, text))?;
     Ok(MemShelf::new(alloc, files, Vec::new(alloc)))

@@ -90,7 +90,13 @@ fn run_link(
     report: &mut Octets,
 ) -> Result<Option<MemDisk>, Memory> {
     match case.hears {
-        Some(text) => run_with(alloc, case, heard_peer(alloc, text, case.quiets)?, disk, report),
+        Some(text) => run_with(
+            alloc,
+            case,
+            heard_peer(alloc, text, case.quiets)?,
+            disk,
+            report,
+        ),
         None => run_with(alloc, case, centre_peer(alloc, case)?, disk, report),
     }
 }

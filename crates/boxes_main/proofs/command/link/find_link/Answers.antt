@@ -4,9 +4,12 @@ use Rattle.boxes_main.proofs.command.link.find_link.Goals as goal
 
 pub returns-then-eq : goal.returns-then-eq
 returns-then-eq c =
-    let rule = c.index-links-at.result in
-    (rule, first_here c.args.id.now c.args.links.now c.loop-at.at rule c.as_slice.result.now c.eq.result (omega arith) c.index-links-at.is c.as_slice.ensures c.eq.ensures c.loop-at.invariant
-    c.if-eq.true, refl)
+    let rule = c.index-links-at.result in (
+      rule,
+      first_here c.args.id.now c.args.links.now c.loop-at.at rule c.as_slice.result.now c.eq.result (omega arith) c.index-links-at.is c.as_slice.ensures c.eq.ensures c.loop-at.invariant
+          c.if-eq.true,
+      refl,
+    )
 
 pub loop-at-preserved : goal.loop-at-preserved
 loop-at-preserved c =
