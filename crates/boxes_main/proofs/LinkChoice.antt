@@ -1,5 +1,5 @@
 -- A link of settings: its rule, how it reaches its centre, and that a session of it may begin.
-use Rattle.std.proofs.Common.{◌≡◌, ℕ, ◌<◌, ◌≤◌, ◌^◌, ◌+◌, Bool, true, false, List, [], ◌∷◌, ◌++◌, length, take, get_or, All, Option, Some, None, inl, inr, ⊎_elim, refl, ap, sym, ◌∙◌, arith, subst, slice_get}
+use Rattle.std.proofs.Common.{◌≡◌, ℕ, ◌<◌, ◌≤◌, ◌^◌, ◌+◌, Bool, true, false, List, [], ◌∷◌, ◌++◌, length, take, get_or, All, Option, Some, ⊎_elim, refl, ap, sym, ◌∙◌, arith, subst, slice_get}
 use Rattle.std.specs.Prelude.{IsSomeAnd, MatchOption, bytes_eq, ◌≢◌}
 use Rattle.std.specs.List.{AllZip}
 use Rattle.std.proofs.lemmas.List.Elements.{All-nil, All-cons, All-head, All-tail, All-append, All-get_or}

@@ -1,18 +1,17 @@
 -- The stages of `link`, put together.
 use Rattle.std.proofs.Common.{◌≡◌, ℕ, Bool, true, List, [], Option, Some, None, refl, ap, sym, ◌∙◌, arith, subst}
-use Rattle.std.specs.Prelude.{◌↔◌, ◌≢◌, IfSome, IsSomeAnd, Ok, is_some, slice_get}
+use Rattle.std.specs.Prelude.{◌↔◌, IfSome, Ok, is_some, slice_get}
 use Rattle.config_groups.specs.declared.read.ConfigFault.TheVariants as config_is
 use Rattle.config_groups.specs.declared.settings.Settings.{Settings}
 use Rattle.config_groups.specs.declared.settings.link_settings.LinkSettings.{LinkSettings}
-use Rattle.gate_store.specs.Store.{IsOpened}
 use Rattle.gate_store.specs.declared.store.Store.{Store as Stored}
 use Rattle.gate_store.specs.declared.store_fault.StoreFault.TheVariants as store_is
 use Rattle.peer_dialer.specs.Dealings.{Dealings}
 use Rattle.store_disk.specs.Story.{Story}
 use Rattle.boxes_main.specs.Failure.{status_of}
 use Rattle.boxes_main.specs.House.{Rooms, Stock, MakesFor}
-use Rattle.boxes_main.specs.Link.{IsChosen, IsHeld, IsNotLinked, IsUndialled, Holds, DialsNone, ComesToLink}
-use Rattle.boxes_main.specs.LinkSteps.{Chooses, ChoosesNone, ChosenSo, EndsLink, IsChosenIn, IsLinked, ServedSo, ServesChosen, ServesLink}
+use Rattle.boxes_main.specs.Link.{IsChosen, IsNotLinked, ComesToLink}
+use Rattle.boxes_main.specs.LinkSteps.{ChoosesNone, ChosenSo, EndsLink, IsChosenIn, ServedSo, ServesChosen, ServesLink}
 use Rattle.boxes_main.specs.Opening.{Reads, IsNoStore}
 use Rattle.boxes_main.specs.OpeningSteps.{OpensStore, OpensNone}
 use Rattle.boxes_main.specs.Worker.{Worker}

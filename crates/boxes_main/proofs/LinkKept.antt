@@ -15,9 +15,9 @@ use Rattle.gate_model.specs.State.{State}
 use Rattle.gate_model.specs.declared.reply.Refusal.{Refusal}
 use Rattle.gate_model.specs.declared.reply.Refusal.TheVariants as refusal_is
 use Rattle.gate_model.specs.declared.reply.Reply.{Reply}
-use Rattle.gate_store.specs.Deeds.{Performs, Passes, Takes, TakesNext, TakesMessage, Withholds, CountsFault, LeavesUnsure, is_by_disk, put_behind}
+use Rattle.gate_store.specs.Deeds.{Performs, Passes, TakesNext, TakesMessage, Withholds, CountsFault, LeavesUnsure, is_by_disk, put_behind}
 use Rattle.gate_store.specs.Entries.{state_of}
-use Rattle.gate_store.specs.Reopening.{Reopens, ReopensTo, MayReopen, MayReopenIn, MayStandFor}
+use Rattle.gate_store.specs.Reopening.{Reopens, ReopensTo, MayReopen, MayReopenIn}
 use Rattle.gate_store.specs.Store.{IsStore, IsOpened, birth_in, disk_in, rules_in, state_in, unsure_in}
 use Rattle.gate_store.specs.declared.store.Store.{Store}
 use Rattle.gate_store.specs.declared.taken.Taken.{Taken}
@@ -29,7 +29,7 @@ use Rattle.link_turn.specs.Steps.{Deed, performed, passed, took}
 use Rattle.link_turn.specs.Turn.{IsOf, Leads}
 use Rattle.route_rules.specs.declared.rules.Rules.{Rules}
 use Rattle.store_disk.specs.Disk.{Areas}
-use Rattle.store_disk.specs.Story.{Story, IsImage, LeavesOnly, untold}
+use Rattle.store_disk.specs.Story.{Story, LeavesOnly, untold}
 use Rattle.boxes_main.specs.House.{IsToldWord}
 use Rattle.boxes_main.specs.Link.{IsKept}
 use Rattle.boxes_main.specs.LinkDeeds.{expired, recorded_by, recorded_in, Asks, is_failed, IsInDoubt, IsNext, ReopensAmid}

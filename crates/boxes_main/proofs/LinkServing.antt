@@ -1,15 +1,15 @@
 -- A session of a link that was held over a store that was opened, and what is left of it.
-use Rattle.std.proofs.Common.{◌≡◌, ◌≤◌, ◌⊎◌, inl, inr, ⊎_elim, ℕ, Bool, true, false, List, [], ◌∷◌, ◌++◌, length, map, Option, Some, None, refl, ap, sym, ◌∙◌, arith, subst}
+use Rattle.std.proofs.Common.{◌≡◌, ◌⊎◌, ℕ, Bool, false, List, [], ◌∷◌, ◌++◌, Option, Some, None, refl, ap, sym, ◌∙◌, subst}
 use Rattle.std.specs.Prelude.{IfSome, MatchOption, is_some, option_map}
 use Rattle.std.specs.Option.{option_map_or}
-use Rattle.kn_base.specs.Count.{Counts, Rose}
+use Rattle.kn_base.specs.Count.{Rose}
 use Rattle.kn_base.specs.Talk.{heard_of, said_of}
 use Rattle.kn_base.specs.declared.piece.Past.{Past}
 use Rattle.config_groups.specs.declared.settings.link_settings.LinkSettings.{LinkSettings}
 use Rattle.gate_entries.specs.declared.recorded.Recorded.{Recorded}
 use Rattle.gate_store.specs.Store.{IsOpened, disk_in, state_in, unsure_in}
 use Rattle.gate_store.specs.declared.store.Store.{Store}
-use Rattle.link_turn.specs.Session.{messages, terms_of, used_by}
+use Rattle.link_turn.specs.Session.{messages, terms_of}
 use Rattle.link_turn.specs.Steps.{Deed}
 use Rattle.link_turn.specs.Talk.{LinkTalk}
 use Rattle.link_turn.specs.Turn.{IsOf, Leads, Reads}
@@ -20,7 +20,6 @@ use Rattle.link_turn.specs.declared.submitted.Submitted.{Submitted}
 use Rattle.link_turn.specs.declared.terms.Terms.{Terms}
 use Rattle.link_turn.proofs.Failing.{disk_failed}
 use Rattle.peer_dialer.specs.Dealings.{Dealings, Adds, Stays, asked_for}
-use Rattle.peer_dialer.specs.declared.asked.Asked.{Asked}
 use Rattle.route_rules.specs.declared.rules.Rules.{Rules}
 use Rattle.smpp_link.specs.Hearing.{Hears, Refuses}
 use Rattle.smpp_link.specs.Saying.{bind_of}
@@ -30,16 +29,15 @@ use Rattle.store_disk.specs.Disk.{Areas}
 use Rattle.store_disk.specs.Story.{Story}
 use Rattle.boxes_main.specs.Failure.{status_of}
 use Rattle.boxes_main.specs.House.{Rooms, Stock, IsNewDialer, IsToldWord}
-use Rattle.boxes_main.specs.Link.{link_fault, terms_for, said_to, talk_cause, DiskRose, IsHeld, IsUndialled, IsKept, IsLinkWorker}
+use Rattle.boxes_main.specs.Link.{link_fault, terms_for, said_to, talk_cause, DiskRose, IsHeld, IsUndialled, IsKept}
 use Rattle.boxes_main.specs.LinkSteps.{Calls, CallsNone, HoldsWith, IsNewSession, MayBegin, ServedSo, ServesLink, ends_by, failure_by, pasts_by}
 use Rattle.boxes_main.specs.Opening.{IsHouseDisk}
-use Rattle.boxes_main.specs.Worker.{Worker, WasRead}
+use Rattle.boxes_main.specs.Worker.{Worker}
 use Rattle.boxes_main.specs.declared.command_end.Role.TheVariants as role_is
 use Rattle.boxes_main.specs.declared.failure.Failure.{Failure}
-use Rattle.boxes_main.specs.declared.failure.Failure.TheVariants.{Link, Undialled}
+use Rattle.boxes_main.specs.declared.failure.Failure.TheVariants.{Link}
 use Rattle.boxes_main.specs.declared.link_session.Held.{Held}
 use Rattle.boxes_main.specs.declared.link_session.LinkFault.{LinkFault}
-use Rattle.boxes_main.specs.declared.link_session.LinkFault.TheVariants as fault_is
 use Rattle.boxes_main.proofs.LinkKept.{kept_by}
 use Rattle.boxes_main.proofs.Sessions.{ClosesAs, ClosesTo, opened_unfailed}
 

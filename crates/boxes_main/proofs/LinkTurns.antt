@@ -1,10 +1,10 @@
 -- Turns of a link's session, one behind the other, up to its end.
-use Rattle.std.proofs.Common.{◌≡◌, ◌≤◌, ◌<◌, ◌+◌, ◌^◌, ◌-◌, ℕ, zero, suc, min, Bool, true, false, List, [], ◌∷◌, ◌++◌, length, All, Option, Some, None, inl, inr, ⊎_elim, ◌⊎◌, refl, ap, sym, ◌∙◌, append_assoc, arith, subst}
-use Rattle.std.specs.Prelude.{IfSome, MatchOption, is_some, ◌==◌, if◌then◌else◌}
-use Rattle.std.proofs.Math.Nat.{min-le_left, le-min, min-le_right}
+use Rattle.std.proofs.Common.{◌≡◌, ◌≤◌, ◌<◌, ◌+◌, ◌^◌, ◌-◌, ℕ, zero, suc, min, Bool, true, false, List, [], ◌++◌, length, Option, Some, None, inl, inr, ⊎_elim, ◌⊎◌, refl, ap, sym, ◌∙◌, arith, subst}
+use Rattle.std.specs.Prelude.{IfSome, MatchOption, is_some, ◌==◌}
+use Rattle.std.proofs.Math.Nat.{min-le_left}
 use Rattle.std.proofs.lemmas.Bool.{cases_Bool, eqb-true}
 use Rattle.std.proofs.lemmas.List.{append-nil, length-append}
-use Rattle.kn_base.specs.Count.{Counts, no_counts, Rose, last_count}
+use Rattle.kn_base.specs.Count.{Counts, no_counts, Rose}
 use Rattle.kn_base.specs.Course.{Course, with_more}
 use Rattle.kn_base.specs.Course.{IsFresh as IsNewCourse}
 use Rattle.kn_base.specs.Talk.{heard_of, said_of, IsPastOf}
@@ -26,7 +26,6 @@ use Rattle.link_turn.specs.declared.session.Phase.TheVariants as phase_is
 use Rattle.link_turn.specs.declared.session.Session.{Session}
 use Rattle.link_turn.specs.declared.terms.Terms.{Terms}
 use Rattle.link_turn.specs.declared.turned.Turned.TheVariants.{On, Ended}
-use Rattle.link_turn.specs.declared.wish.Wish.{Wish}
 use Rattle.link_turn.specs.declared.wish.Wish.TheVariants as wish_is
 use Rattle.link_turn.proofs.TalkingOn.{talks_none, talks_then}
 use Rattle.peer_dialer.specs.Dealings.{Dealings, Parts}

@@ -1,12 +1,11 @@
 -- SMPP hears no report yet: the report of a centre is strange.
-use Rattle.std.proofs.Common.{◌≡◌, ℕ, Bool, true, false, List, refl, ap, sym, ◌∙◌}
+use Rattle.std.proofs.Common.{◌≡◌, ℕ, Bool, true, false, refl, ap, ◌∙◌}
 use Rattle.std.specs.Prelude.{◌==◌, ◌||◌, if◌then◌else◌}
 use Rattle.link_core.specs.declared.heard.Heard.{Heard}
 use Rattle.link_core.specs.declared.heard.Heard.TheVariants as heard_is
 use Rattle.link_turn.specs.Turn.{HearsNoReport}
-use Rattle.sms_record.specs.declared.kind.Kind.{Kind}
 use Rattle.smpp_link.specs.Delivery.{delivered, is_report}
-use Rattle.smpp_link.specs.Hearing.{Hears, heard_of, replied, told}
+use Rattle.smpp_link.specs.Hearing.{Hears, heard_of, told}
 use Rattle.smpp_wire.specs.Command.{Fields, Bind, BindReply, Message, SubmitReply, DeliverReply, Nothing, Any, Command}
 use Rattle.smpp_wire.specs.declared.command.TheConstants.{GENERIC_NACK, SUBMIT_SM_RESP, DELIVER_SM, DELIVER_SM_RESP, UNBIND, UNBIND_RESP, BIND_TRANSCEIVER_RESP, ENQUIRE_LINK, ENQUIRE_LINK_RESP}
 

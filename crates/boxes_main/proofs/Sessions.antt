@@ -1,5 +1,5 @@
 -- What was done over a store that was opened: a session was served, or its counts were printed.
-use Rattle.std.proofs.Common.{◌≡◌, ◌≤◌, ◌+◌, ◌*◌, ℕ, Bool, true, false, List, [], ◌∷◌, ◌++◌, length, Option, Some, None, refl, ap, sym, ◌∙◌, arith, subst}
+use Rattle.std.proofs.Common.{◌≡◌, ◌≤◌, ◌+◌, ℕ, Bool, true, false, List, [], ◌∷◌, ◌++◌, Option, Some, None, refl, ap, sym, ◌∙◌, arith, subst}
 use Rattle.std.specs.Prelude.{IfSome, is_some, option_map}
 use Rattle.std.specs.Bool.{OnTrue}
 use Rattle.std.proofs.lemmas.List.{append-nil}
@@ -8,21 +8,21 @@ use Rattle.config_groups.specs.declared.settings.Settings.{Settings}
 use Rattle.gate_model.specs.Acceptor.{Deed, CountsFaults}
 use Rattle.gate_model.specs.State.{State, totals_of}
 use Rattle.gate_model.specs.declared.totals.Totals.{Totals}
-use Rattle.sendsms_http.specs.Session.{AddsAll, Talks, with_last}
+use Rattle.sendsms_http.specs.Session.{AddsAll, Talks}
 use Rattle.sendsms_http.specs.declared.http_end.HttpEnd.{HttpEnd}
 use Rattle.store_journal.specs.Area.{stands, unborn}
 use Rattle.store_disk.specs.Disk.{Areas}
 use Rattle.store_disk.specs.Story.{Story, IsImage, LeavesOnly, reads, untold}
 use Rattle.gate_entries.specs.declared.recorded.Recorded.{Recorded}
 use Rattle.gate_store.specs.Entries.{start, state_of, AreInTurn, StandsFor}
-use Rattle.gate_store.specs.Reopening.{MayReopen, MayStandFor, ReopensAlike, ReopensTo}
+use Rattle.gate_store.specs.Reopening.{MayReopen, MayStandFor, ReopensTo}
 use Rattle.route_rules.specs.declared.rules.Rules.{Rules}
 use Rattle.gate_store.specs.Deeds.{Leads, done_of}
 use Rattle.gate_store.specs.Store.{IsStore, IsOpened, disk_in, birth_in, rules_in, state_in, unsure_in}
 use Rattle.gate_store.specs.declared.store.Store.{Store}
 use Rattle.gate_store.proofs.Commits.{reasoned, ruled_on, gained, doubted}
-use Rattle.gate_store.proofs.Told.{told_weaker, told_both, told_leaves_weaker}
-use Rattle.boxes_main.specs.Door.{IsInDoubt, IsSession, ReopensAmid, accepts_in, octets_limit, fault_by}
+use Rattle.gate_store.proofs.Told.{told_both, told_leaves_weaker}
+use Rattle.boxes_main.specs.Door.{IsInDoubt, IsSession, ReopensAmid, octets_limit, fault_by}
 use Rattle.boxes_main.specs.DoorSteps.{ServesOne}
 use Rattle.boxes_main.specs.Failure.{status_of}
 use Rattle.boxes_main.specs.House.{Rooms, Stock, IsToldWord}

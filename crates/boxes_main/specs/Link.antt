@@ -1,5 +1,5 @@
 -- What the command `link` comes to.
-use Rattle.std.specs.Prelude.{◌≡◌, ◌≢◌, ◌≤◌, ◌+◌, ◌*◌, ◌⊎◌, ⊤, ℕ, min, Bool, true, false, List, [], ◌∷◌, ◌++◌, length, take, All, slice_get, Option, Some, None, IfSome, IsSomeAnd, MatchOption, is_some, Result, Ok, Err}
+use Rattle.std.specs.Prelude.{◌≡◌, ◌≢◌, ◌≤◌, ◌+◌, ◌*◌, ◌⊎◌, ⊤, ℕ, min, Bool, true, false, List, [], ◌∷◌, ◌++◌, length, take, All, slice_get, Option, Some, None, IfSome, IsSomeAnd, MatchOption, is_some, Ok, Err}
 use Rattle.std.specs.Bool.{OnTrue}
 use Rattle.kn_base.specs.Count.{Counts, Rose, last_count}
 use Rattle.kn_base.specs.Talk.{heard_of, said_of, counts_of}

@@ -1,5 +1,5 @@
 -- The steps of `link`. No public clause cites these.
-use Rattle.std.specs.Prelude.{◌≡◌, ◌≢◌, ◌≤◌, ◌<◌, ◌+◌, ◌-◌, ◌*◌, ◌^◌, ◌⊎◌, ◌==◌, ⊤, ℕ, min, Bool, true, false, if◌then◌else◌, List, [], ◌∷◌, length, Option, Some, None, IfSome, MatchOption, is_some, option_map, slice_get, Ok}
+use Rattle.std.specs.Prelude.{◌≡◌, ◌≢◌, ◌≤◌, ◌<◌, ◌+◌, ◌-◌, ◌*◌, ◌^◌, ◌⊎◌, ◌==◌, ℕ, min, Bool, true, false, if◌then◌else◌, List, [], ◌∷◌, length, Option, Some, None, IfSome, MatchOption, is_some, option_map, slice_get, Ok}
 use Rattle.std.specs.Option.{option_map_or}
 use Rattle.kn_base.specs.Count.{Counts, no_counts, Rose}
 use Rattle.kn_base.specs.Course.{Course}
@@ -9,7 +9,7 @@ use Rattle.kn_base.specs.declared.piece.Piece.{Piece}
 use Rattle.config_groups.specs.Ranges.{AreSettings}
 use Rattle.config_groups.specs.declared.settings.Settings.{Settings}
 use Rattle.config_groups.specs.declared.settings.link_settings.LinkSettings.{LinkSettings}
-use Rattle.gate_store.specs.Store.{IsOpen, IsOpened, rules_in, state_in, unsure_in}
+use Rattle.gate_store.specs.Store.{IsOpen, IsOpened, rules_in, state_in}
 use Rattle.gate_store.specs.declared.store.Store.{Store as Stored}
 use Rattle.link_core.specs.declared.heard.Heard.{Heard}
 use Rattle.link_core.specs.declared.out.Out.{Out}
@@ -45,7 +45,6 @@ use Rattle.boxes_main.specs.declared.command_end.SessionEnd.{SessionEnd}
 use Rattle.boxes_main.specs.declared.command_end.SessionEnd.TheVariants as ended_as
 use Rattle.boxes_main.specs.declared.failure.Failure.{Failure}
 use Rattle.boxes_main.specs.declared.failure.Failure.TheVariants.{NoSuchLink, KindNotBuilt, NoStoreFile, Store, Undialled, Link}
-use Rattle.boxes_main.specs.declared.link_session.LinkFault.{LinkFault}
 use Rattle.boxes_main.specs.declared.link_session.Held.{Held}
 use Rattle.boxes_main.specs.declared.link_session.Limit.{Limit}
 use Rattle.boxes_main.specs.declared.link_session.Limit.TheVariants.{Octets, Quiets}

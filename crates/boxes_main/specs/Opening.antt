@@ -1,5 +1,5 @@
 -- What stands behind each command that has a store: its configuration was read, and the store that it names was opened.
-use Rattle.std.specs.Prelude.{◌≡◌, ◌≢◌, ℕ, ◌≤◌, Bool, List, [], All, Option, None, Result, Ok, Err, IfSome, IsSomeAnd, IsErrOf, MatchOption}
+use Rattle.std.specs.Prelude.{◌≡◌, ◌≢◌, ℕ, ◌≤◌, Bool, List, [], Option, None, Result, Ok, Err, IfSome, IsSomeAnd, IsErrOf, MatchOption}
 use Rattle.std.specs.Bool.{OnTrue}
 use Rattle.kn_base.specs.Count.{Rose}
 use Rattle.config_groups.specs.Config.{IsConfig}

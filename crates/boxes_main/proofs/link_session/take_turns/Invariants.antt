@@ -1,6 +1,3 @@
-use Rattle.std.proofs.Common.{◌≡◌, ℕ, List, Option}
-use Rattle.kn_base.specs.Course.{Course}
-use Rattle.gate_store.specs.declared.store.Store.{Store}
 use Rattle.link_turn.specs.Session.{IsFresh}
 use Rattle.link_turn.specs.Turn.{MayTurn}
 use Rattle.boxes_main.specs.LinkSteps.{KeepsOn, remaining}

@@ -1,4 +1,4 @@
-use Rattle.std.proofs.Common.{◌≡◌, false, sym, subst, arith}
+use Rattle.std.proofs.Common.{false, arith}
 use Rattle.std.specs.Prelude.{None}
 use Rattle.boxes_main.specs.declared.link_session.Progress.{Progress}
 use Rattle.boxes_main.proofs.LinkTurns.{begins_on, ends_so, goes_first}

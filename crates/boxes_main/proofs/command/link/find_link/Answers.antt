@@ -1,4 +1,4 @@
-use Rattle.std.proofs.Common.{◌≡◌, refl, arith}
+use Rattle.std.proofs.Common.{refl, arith}
 use Rattle.boxes_main.proofs.LinkChoice.{first_here, none_so_far, none_at_all}
 use Rattle.boxes_main.proofs.command.link.find_link.Goals as goal
 

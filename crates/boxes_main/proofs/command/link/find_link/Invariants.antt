@@ -1,4 +1,4 @@
-use Rattle.std.proofs.Common.{◌≡◌, take}
+use Rattle.std.proofs.Common.{take}
 use Rattle.boxes_main.specs.Link.{HasNone}
 use Rattle.boxes_main.proofs.command.link.find_link.Given as goal
 
