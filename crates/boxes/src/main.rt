@@ -2,13 +2,15 @@
 #![tactic(auto)]
 
 use boxes_main::{
-    Command, ConfigFault, Failure, HostHouse, House, door, read_command, show, status, tell,
+    Command, ConfigFault, Failure, HostHouse, House, door, link_once, read_command, show, status,
+    tell,
 };
 use kn_base::{Memory, Octets};
 use std::alloc::Global;
 use std::env;
 use std::fs::{File, Files};
 use std::io::ErrorKind;
+use std::net::Net;
 use std::process::ExitCode;
 use std::rt::{Env, Runtime};
 
@@ -35,6 +37,7 @@ fn read_words<R: Env + AllocGlobal>(rt: &R) -> Result<Vec<Octets>, Memory> {
 fn run_words<H: House>(alloc: Global, words: &[Octets], house: &mut H) -> u8 {
     match read_command(words) {
         Some(Command::Show { .. }) => show(alloc, words, house).status,
+        Some(Command::Link { .. }) => link_once(alloc, words, house).status,
         Some(Command::Door { .. }) | None => door(alloc, words, house).status,
     }
 }
@@ -55,7 +58,7 @@ fn run_in<R: Env + AllocGlobal, H: House>(rt: &R, house: &mut H) -> u8 {
 ///
 /// A standard stream that was closed leaves its descriptor to the next file that is opened, which would be one of the store,
 /// and the answer would be written into it. So three files stand open first.
-fn run<R: Runtime + Files<File = File> + AllocGlobal + Copy>(rt: R) -> u8 {
+fn run<R: Runtime + Files<File = File> + Net + AllocGlobal + Copy>(rt: R) -> u8 {
     let _first = File::open(&rt, NULL);
     let _second = File::open(&rt, NULL);
     let _third = File::open(&rt, NULL);

@@ -7,7 +7,7 @@ use Rattle.gate_model.specs.Acceptor.{Deed}
 use Rattle.gate_model.specs.declared.reply.Refusal.{Refusal}
 use Rattle.gate_model.specs.declared.reply.Refusal.TheVariants.{NoRoute, Full, Disk, Memory}
 use Rattle.gate_model.specs.declared.reply.Reply.{Reply}
-use Rattle.gate_store.specs.Deeds.{LeavesUnsure, MayBeUnsure, done_of, entries_of, entry_of, put_behind}
+use Rattle.gate_store.specs.Deeds.{LeavesUnsure, MayBeUnsure, entries_of, entry_of, put_behind}
 use Rattle.boxes_main.specs.Door.{IsInDoubt}
 use Rattle.boxes_main.proofs.Answered.{done_of-append}
 

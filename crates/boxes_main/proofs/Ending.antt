@@ -16,7 +16,7 @@ use Rattle.boxes_main.specs.Show.{IsShown, ComesToShow}
 use Rattle.boxes_main.specs.ShowSteps.{ShowsOne, EndsShow}
 use Rattle.boxes_main.specs.Worker.{Worker}
 use Rattle.boxes_main.specs.declared.failure.Failure.{Failure}
-use Rattle.boxes_main.specs.declared.failure.Failure.TheVariants.{Usage, Configuration, NoStoreFile, Store, Session, Output}
+use Rattle.boxes_main.specs.declared.failure.Failure.TheVariants.{Usage, Configuration, NoSuchLink, KindNotBuilt, NoStoreFile, Store, Session, Undialled, Link, Output}
 use Rattle.boxes_main.specs.declared.printing.OutputFault.{OutputFault}
 use Rattle.boxes_main.specs.declared.session.SessionFault.{SessionFault}
 
@@ -47,6 +47,10 @@ module _
   named (Some n) new (Store fault) cause = (λ is. absurd cc, λ is. absurd cc)
   named name new (Session fault) cause = absurd cause
   named name new (Output fault) cause = absurd cause
+  named name new NoSuchLink cause = absurd cause
+  named name new KindNotBuilt cause = absurd cause
+  named name new Undialled cause = absurd cause
+  named name new (Link fault) cause = absurd cause
 
   -- and neither is what comes of a store that stood open
   open_named : (name : Option (List ℕ)) (new : S) (settings : Settings) (failure : Option Failure) → IsConfigured files shelf_faults name old new settings
@@ -55,11 +59,11 @@ module _
   open_named (Some n) new settings failure configured other = (λ is. absurd (other is), λ is. absurd cc)
 
 module _
-    {V S O E D C : Type 0} (course : V → Course) (files : S → Option (List (List ℕ × List ℕ))) (shelf_faults : S → ℕ)
+    {V S O E D C L : Type 0} (course : V → Course) (files : S → Option (List (List ℕ × List ℕ))) (shelf_faults : S → ℕ)
     (tells : Bool) (story : D → Story) (faults calls : D → ℕ) (readings_of : C → Option (List ℕ))
     (name : Option (List ℕ)) (old new : Rooms V S O E) (before after : Stock) where
   -- a usage is told exactly where the words name no configuration for the command
-  pub usage_by : (workers : List (Worker C)) (disk : Option D) (failure : Option Failure)
+  pub usage_by : (workers : List (Worker C L)) (disk : Option D) (failure : Option Failure)
       → ComesTo course files shelf_faults tells story faults calls readings_of name old new before workers disk failure → (failure ≡ Some Usage) ↔ (name ≡ None)
   usage_by workers disk None comes = open_named files shelf_faults tells story faults calls old.shelf before disk name new.shelf comes.settings None comes.configured (λ is. absurd cc)
   usage_by workers disk (Some (Session fault)) comes =
@@ -69,9 +73,13 @@ module _
   usage_by workers disk (Some NoStoreFile) comes = named files shelf_faults tells story faults calls old.shelf before disk name new.shelf NoStoreFile comes.cause
   usage_by workers disk (Some (Store fault)) comes = named files shelf_faults tells story faults calls old.shelf before disk name new.shelf (Store fault) comes.cause
   usage_by workers disk (Some (Output fault)) comes = absurd comes
+  usage_by workers disk (Some NoSuchLink) comes = absurd comes
+  usage_by workers disk (Some KindNotBuilt) comes = absurd comes
+  usage_by workers disk (Some Undialled) comes = absurd comes
+  usage_by workers disk (Some (Link fault)) comes = absurd comes
 
   -- what is said on standard error changes nothing else
-  pub comes_to_told : (workers : List (Worker C)) (disk : Option D) (failure : Option Failure) (errors : E)
+  pub comes_to_told : (workers : List (Worker C L)) (disk : Option D) (failure : Option Failure) (errors : E)
       → ComesTo course files shelf_faults tells story faults calls readings_of name old new before workers disk failure
       → ComesTo course files shelf_faults tells story faults calls readings_of name old (record new { errors = errors }) before workers disk failure
   comes_to_told workers disk None errors comes = record { settings = comes.settings; configured = comes.configured; served = comes.served }
@@ -81,9 +89,13 @@ module _
   comes_to_told workers disk (Some NoStoreFile) errors comes = record { unserved = comes.unserved; cause = comes.cause }
   comes_to_told workers disk (Some (Store fault)) errors comes = record { unserved = comes.unserved; cause = comes.cause }
   comes_to_told workers disk (Some (Output fault)) errors comes = comes
+  comes_to_told workers disk (Some NoSuchLink) errors comes = comes
+  comes_to_told workers disk (Some KindNotBuilt) errors comes = comes
+  comes_to_told workers disk (Some Undialled) errors comes = comes
+  comes_to_told workers disk (Some (Link fault)) errors comes = comes
 
   -- what the command comes to where no store stood open
-  comes_to_none : (workers : List (Worker C)) (disk : Option D) (failure : Failure) → new.visitor ≡ old.visitor → workers ≡ []
+  comes_to_none : (workers : List (Worker C L)) (disk : Option D) (failure : Failure) → new.visitor ≡ old.visitor → workers ≡ []
       → IsNotOpen files shelf_faults tells story faults calls name old.shelf new.shelf before disk failure
       → ComesTo course files shelf_faults tells story faults calls readings_of name old new before workers disk (Some failure)
   comes_to_none workers disk Usage same alone cause = record { unserved = record { unvisited = same; no_worker = alone }; cause = cause }
@@ -92,9 +104,13 @@ module _
   comes_to_none workers disk (Store fault) same alone cause = record { unserved = record { unvisited = same; no_worker = alone }; cause = cause }
   comes_to_none workers disk (Session fault) same alone cause = absurd cause
   comes_to_none workers disk (Output fault) same alone cause = absurd cause
+  comes_to_none workers disk NoSuchLink same alone cause = absurd cause
+  comes_to_none workers disk KindNotBuilt same alone cause = absurd cause
+  comes_to_none workers disk Undialled same alone cause = absurd cause
+  comes_to_none workers disk (Link fault) same alone cause = absurd cause
 
   -- no store stood open
-  pub ends_closed : (status : ℕ) (failure : Option Failure) (disk : Option D) (workers : List (Worker C)) (why : Failure)
+  pub ends_closed : (status : ℕ) (failure : Option Failure) (disk : Option D) (workers : List (Worker C L)) (why : Failure)
       → status ≡ status_of failure → failure ≡ Some why → workers ≡ []
       → OpensNothing files shelf_faults tells story faults calls name old new before after why disk
       → Ends course files shelf_faults tells story faults calls readings_of name old new before after status failure disk workers
@@ -107,11 +123,11 @@ module _
   }
 
 module _
-    {V S O E D C : Type 0} (course : V → Course) (files : S → Option (List (List ℕ × List ℕ))) (shelf_faults : S → ℕ)
+    {V S O E D C L : Type 0} (course : V → Course) (files : S → Option (List (List ℕ × List ℕ))) (shelf_faults : S → ℕ)
     (tells : Bool) (story : D → Story) (faults calls : D → ℕ) (readings_of : C → Option (List ℕ))
     (name : Option (List ℕ)) (old mid new : Rooms V S O E) (before between after : Stock) (settings : Settings) (it : store.Store D) where
   -- what the command comes to where a session was served
-  comes_to_served : (workers : List (Worker C)) (disk : Option D) (fault : Option SessionFault)
+  comes_to_served : (workers : List (Worker C L)) (disk : Option D) (fault : Option SessionFault)
       → IsConfigured files shelf_faults name old.shelf new.shelf settings
       → IsServed tells story faults calls readings_of settings (before.disks settings.core.store_file) before.word (course old.visitor) (course new.visitor) workers disk fault
       → ComesTo course files shelf_faults tells story faults calls readings_of name old new before workers disk (option_map Session fault)
@@ -119,7 +135,7 @@ module _
   comes_to_served workers disk (Some fault) configured served = record { settings = settings; configured = configured; served = served }
 
   -- a session was served over the store that was opened
-  pub ends_served : (status : ℕ) (failure : Option Failure) (disk : Option D) (workers : List (Worker C))
+  pub ends_served : (status : ℕ) (failure : Option Failure) (disk : Option D) (workers : List (Worker C L))
       → Opens files shelf_faults tells story faults calls name old mid before between settings it
       → ServesOne course tells story faults calls readings_of settings mid new between after it status failure disk workers
       → Ends course files shelf_faults tells story faults calls readings_of name old new before after status failure disk workers
@@ -152,6 +168,10 @@ module _
   show_usage_by disk (Some NoStoreFile) comes = named files shelf_faults tells story faults calls old.shelf before disk name new.shelf NoStoreFile comes.cause
   show_usage_by disk (Some (Store fault)) comes = named files shelf_faults tells story faults calls old.shelf before disk name new.shelf (Store fault) comes.cause
   show_usage_by disk (Some (Session fault)) comes = absurd comes
+  show_usage_by disk (Some NoSuchLink) comes = absurd comes
+  show_usage_by disk (Some KindNotBuilt) comes = absurd comes
+  show_usage_by disk (Some Undialled) comes = absurd comes
+  show_usage_by disk (Some (Link fault)) comes = absurd comes
 
   -- what is said on standard error changes nothing else
   pub shows_told : (disk : Option D) (failure : Option Failure) (errors : E)
@@ -164,6 +184,10 @@ module _
   shows_told disk (Some NoStoreFile) errors comes = record { unprinted = comes.unprinted; cause = comes.cause }
   shows_told disk (Some (Store fault)) errors comes = record { unprinted = comes.unprinted; cause = comes.cause }
   shows_told disk (Some (Session fault)) errors comes = comes
+  shows_told disk (Some NoSuchLink) errors comes = comes
+  shows_told disk (Some KindNotBuilt) errors comes = comes
+  shows_told disk (Some Undialled) errors comes = comes
+  shows_told disk (Some (Link fault)) errors comes = comes
 
   -- where no store stood open, nothing was printed
   shows_none : (disk : Option D) (failure : Failure) → new.output ≡ old.output
@@ -175,9 +199,13 @@ module _
   shows_none disk (Store fault) same cause = record { unprinted = same; cause = cause }
   shows_none disk (Session fault) same cause = absurd cause
   shows_none disk (Output fault) same cause = absurd cause
+  shows_none disk NoSuchLink same cause = absurd cause
+  shows_none disk KindNotBuilt same cause = absurd cause
+  shows_none disk Undialled same cause = absurd cause
+  shows_none disk (Link fault) same cause = absurd cause
 
   -- no store stood open
-  pub show_ends_closed : {C : Type 0} (status : ℕ) (failure : Option Failure) (disk : Option D) (workers : List (Worker C)) (why : Failure)
+  pub show_ends_closed : {C L : Type 0} (status : ℕ) (failure : Option Failure) (disk : Option D) (workers : List (Worker C L)) (why : Failure)
       → status ≡ status_of failure → failure ≡ Some why → workers ≡ []
       → OpensNothing files shelf_faults tells story faults calls name old new before after why disk
       → EndsShow course files shelf_faults tells story faults calls name old new before after status failure disk workers
@@ -203,7 +231,7 @@ module _
   shows_by disk (Some fault) configured shown = record { settings = settings; configured = configured; shown = shown }
 
   -- the counts of the store that was opened were printed
-  pub show_ends : {C : Type 0} (status : ℕ) (failure : Option Failure) (disk : Option D) (workers : List (Worker C))
+  pub show_ends : {C L : Type 0} (status : ℕ) (failure : Option Failure) (disk : Option D) (workers : List (Worker C L))
       → Opens files shelf_faults tells story faults calls name old mid before between settings it
       → ShowsOne course tells story faults calls settings.rules mid new between after it status failure disk workers
       → EndsShow course files shelf_faults tells story faults calls name old new before after status failure disk workers

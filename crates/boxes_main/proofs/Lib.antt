@@ -3,6 +3,13 @@ pub mod Answered
 pub mod Doubts
 pub mod Ending
 pub mod Gives
+pub mod LinkCalls
+pub mod LinkChoice
+pub mod LinkEnding
+pub mod LinkKept
+pub mod LinkServing
+pub mod LinkTurns
+pub mod NoReports
 pub mod OpeningLemmas
 pub mod Printed
 pub mod Sessions

@@ -1,5 +1,5 @@
 -- What was done over a store that was opened: a session was served, or its counts were printed.
-use Rattle.std.proofs.Common.{◌≡◌, ◌≤◌, ◌+◌, ◌*◌, ℕ, Bool, true, false, List, [], ◌∷◌, ◌++◌, length, Option, Some, None, refl, ap, sym, ◌∙◌, arith, subst}
+use Rattle.std.proofs.Common.{◌≡◌, ◌≤◌, ◌+◌, ℕ, Bool, true, false, List, [], ◌∷◌, ◌++◌, Option, Some, None, refl, ap, sym, ◌∙◌, arith, subst}
 use Rattle.std.specs.Prelude.{IfSome, is_some, option_map}
 use Rattle.std.specs.Bool.{OnTrue}
 use Rattle.std.proofs.lemmas.List.{append-nil}
@@ -8,21 +8,21 @@ use Rattle.config_groups.specs.declared.settings.Settings.{Settings}
 use Rattle.gate_model.specs.Acceptor.{Deed, CountsFaults}
 use Rattle.gate_model.specs.State.{State, totals_of}
 use Rattle.gate_model.specs.declared.totals.Totals.{Totals}
-use Rattle.sendsms_http.specs.Session.{AddsAll, Talks, with_last}
+use Rattle.sendsms_http.specs.Session.{AddsAll, Talks}
 use Rattle.sendsms_http.specs.declared.http_end.HttpEnd.{HttpEnd}
 use Rattle.store_journal.specs.Area.{stands, unborn}
 use Rattle.store_disk.specs.Disk.{Areas}
 use Rattle.store_disk.specs.Story.{Story, IsImage, LeavesOnly, reads, untold}
 use Rattle.gate_entries.specs.declared.recorded.Recorded.{Recorded}
 use Rattle.gate_store.specs.Entries.{start, state_of, AreInTurn, StandsFor}
-use Rattle.gate_store.specs.Reopening.{MayReopen, MayStandFor, ReopensAlike, ReopensTo}
+use Rattle.gate_store.specs.Reopening.{MayReopen, MayStandFor, ReopensTo}
 use Rattle.route_rules.specs.declared.rules.Rules.{Rules}
 use Rattle.gate_store.specs.Deeds.{Leads, done_of}
 use Rattle.gate_store.specs.Store.{IsStore, IsOpened, disk_in, birth_in, rules_in, state_in, unsure_in}
 use Rattle.gate_store.specs.declared.store.Store.{Store}
 use Rattle.gate_store.proofs.Commits.{reasoned, ruled_on, gained, doubted}
-use Rattle.gate_store.proofs.Told.{told_weaker, told_both, told_leaves_weaker}
-use Rattle.boxes_main.specs.Door.{IsInDoubt, IsSession, ReopensAmid, accepts_in, octets_limit, fault_by}
+use Rattle.gate_store.proofs.Told.{told_both, told_leaves_weaker}
+use Rattle.boxes_main.specs.Door.{IsInDoubt, IsSession, ReopensAmid, octets_limit, fault_by}
 use Rattle.boxes_main.specs.DoorSteps.{ServesOne}
 use Rattle.boxes_main.specs.Failure.{status_of}
 use Rattle.boxes_main.specs.House.{Rooms, Stock, IsToldWord}
@@ -137,8 +137,8 @@ module _ {D : Type 0} (tells : Bool) (story : D → Story) (faults calls : D →
       }
 
 module _
-    {V S O E D C : Type 0} (course : O → Course) (tells : Bool) (story : D → Story) (faults calls : D → ℕ) (rules : Rules)
-    (old new : Rooms V S O E) (before after : Stock) (output : O) (store : Store D) (totals : Totals) (disk : D) (workers : List (Worker C)) where
+    {V S O E D C L : Type 0} (course : O → Course) (tells : Bool) (story : D → Story) (faults calls : D → ℕ) (rules : Rules)
+    (old new : Rooms V S O E) (before after : Stock) (output : O) (store : Store D) (totals : Totals) (disk : D) (workers : List (Worker C L)) where
   -- what a store counts was printed on the house's output
   pub shows_by : new ≡ record old { output = output } → after ≡ before
       → (status : ℕ) (failure : Option Failure) (fault : Option OutputFault) → status ≡ status_of failure → failure ≡ option_map Output fault → workers ≡ []
@@ -172,14 +172,14 @@ module _
       }
 
 module _
-    {V S O E D C : Type 0} (course : V → Course)
+    {V S O E D C L : Type 0} (course : V → Course)
     (tells : Bool) (story : D → Story) (faults calls : D → ℕ) (readings_of : C → Option (List ℕ)) (settings : Settings)
     (old mid new : Rooms V S O E) (before between after : Stock) (peer : V) (store later : Store D) (clock clock_later : C)
-    (readings : List ℕ) (deeds : List Deed) (end : HttpEnd) (disk : D) (workers : List (Worker C)) where
+    (readings : List ℕ) (deeds : List Deed) (end : HttpEnd) (disk : D) (workers : List (Worker C L)) where
   -- a session that was served on the house's visitor, with a clock of it
   pub serves_by : mid ≡ old → new ≡ record mid { visitor = peer } → between ≡ before → after ≡ between
       → (status : ℕ) (failure : Option Failure) → status ≡ status_of failure → failure ≡ option_map Session (fault_by (is_some (unsure_in later)) end)
-      → workers ≡ record { role = role_is.Http; clock = Some clock_later; ends = ended_as.Http end ∷ [] } ∷ []
+      → workers ≡ record { role = role_is.Http; clock = Some clock_later; dialer = None; ends = ended_as.Http end ∷ []; pasts = [] } ∷ []
       → IfSome (readings_of clock) (λ so_far. so_far ≡ []) → AddsAll readings (readings_of clock) (readings_of clock_later)
       → Talks settings octets_limit (course mid.visitor) (course peer) readings deeds end → Leads tells story faults calls store deeds later
       → CountsFaults (faults (disk_in store)) (faults (disk_in later)) deeds → disk ≡ disk_in later
@@ -197,9 +197,9 @@ module _
         served = λ areas word birth found told new_disk is. record {
           readings = readings;
           end = end;
-          worker = record { role = role_is.Http; clock = Some clock_later; ends = ended_as.Http end ∷ [] };
+          worker = record { role = role_is.Http; clock = Some clock_later; dialer = None; ends = ended_as.Http end ∷ []; pasts = [] };
           alone = left;
-          left = record { role = refl; clock = new_readings readings (readings_of clock) (readings_of clock_later) new_clock read; ends = refl };
+          left = record { role = refl; clock = new_readings readings (readings_of clock) (readings_of clock_later) new_clock read; no_dialer = refl; ends = refl; no_pasts = refl };
           after = disk;
           handed_back = refl;
           session = session_by tells story faults calls settings store later (course old.visitor) (course new.visitor) readings deeds end disk

@@ -1,5 +1,5 @@
 -- What the command `door` comes to.
-use Rattle.std.specs.Prelude.{◌≡◌, ◌≤◌, ◌+◌, ◌*◌, ◌⊎◌, ℕ, Bool, true, false, if◌then◌else◌, List, [], ◌∷◌, ◌++◌, length, map, codes, bytes_eq, Option, Some, None, IfSome, is_some, Result, Err}
+use Rattle.std.specs.Prelude.{◌≡◌, ◌≤◌, ◌+◌, ◌*◌, ◌⊎◌, ℕ, Bool, true, false, if◌then◌else◌, List, [], ◌∷◌, ◌++◌, length, map, codes, bytes_eq, Option, Some, None, IfSome, is_some, Err}
 use Rattle.std.specs.Bool.{OnTrue}
 use Rattle.std.specs.List.{flat_map}
 use Rattle.kn_base.specs.Course.{Course}
@@ -22,7 +22,7 @@ use Rattle.boxes_main.specs.House.{Rooms, Stock}
 use Rattle.boxes_main.specs.Opening.{IsConfigured, IsFound, IsNotOpen}
 use Rattle.boxes_main.specs.Worker.{Worker, IsHttpWorker}
 use Rattle.boxes_main.specs.declared.failure.Failure.{Failure}
-use Rattle.boxes_main.specs.declared.failure.Failure.TheVariants.{Usage, Configuration, NoStoreFile, Store, Session, Output}
+use Rattle.boxes_main.specs.declared.failure.Failure.TheVariants.{Usage, Configuration, NoSuchLink, KindNotBuilt, NoStoreFile, Store, Session, Undialled, Link, Output}
 use Rattle.boxes_main.specs.declared.session.SessionFault.{SessionFault}
 use Rattle.boxes_main.specs.declared.session.SessionFault.TheVariants.{Disk, Connection, Budget, Memory}
 
@@ -40,7 +40,7 @@ fault_by false (end_is.Budget taken) = Some Budget
 fault_by false end_is.Memory = Some Memory
 
 -- No session was served: nothing was said, and no worker left anything.
-pub record IsUnserved {V C : Type 0} (old new : V) (workers : List (Worker C)) : Type 0 where
+pub record IsUnserved {V C L : Type 0} (old new : V) (workers : List (Worker C L)) : Type 0 where
   pub unvisited : new ≡ old
   pub no_worker : workers ≡ []
 
@@ -109,13 +109,13 @@ module _ {D : Type 0} (tells : Bool) (story : D → Story) (faults calls : D →
     pub bounded : calls disk ≤ 20 + 6 * length deeds
     pub failed : fault ≡ fault_by (is_some unsure) end
 
-module _ {D C : Type 0} (tells : Bool) (story : D → Story) (faults calls : D → ℕ) (readings_of : C → Option (List ℕ)) where
+module _ {D C L : Type 0} (tells : Bool) (story : D → Story) (faults calls : D → ℕ) (readings_of : C → Option (List ℕ)) where
   -- A session was served, and is all that one worker left.
   pub record IsServed
-      (settings : Settings) (areas : Areas) (word : Option ℕ) (old new : Course) (workers : List (Worker C)) (disk : Option D) (fault : Option SessionFault) : Type 0 where
+      (settings : Settings) (areas : Areas) (word : Option ℕ) (old new : Course) (workers : List (Worker C L)) (disk : Option D) (fault : Option SessionFault) : Type 0 where
     pub readings : List ℕ
     pub end : HttpEnd
-    pub worker : Worker C
+    pub worker : Worker C L
     pub alone : workers ≡ worker ∷ []
     pub left : IsHttpWorker readings_of worker readings end
     pub after : D
@@ -123,11 +123,11 @@ module _ {D C : Type 0} (tells : Bool) (story : D → Story) (faults calls : D �
     pub session : IsSession tells story faults calls settings areas word old new readings end after fault
 
 module _
-    {V S O E D C : Type 0} (course : V → Course) (files : S → Option (List (List ℕ × List ℕ))) (shelf_faults : S → ℕ)
+    {V S O E D C L : Type 0} (course : V → Course) (files : S → Option (List (List ℕ × List ℕ))) (shelf_faults : S → ℕ)
     (tells : Bool) (story : D → Story) (faults calls : D → ℕ) (readings_of : C → Option (List ℕ)) where
   -- The store of the configuration stood open, on the house's disk under the name that it says, and a session was served over it.
   pub record Serves
-      (name : Option (List ℕ)) (old new : Rooms V S O E) (stock : Stock) (workers : List (Worker C)) (disk : Option D) (fault : Option SessionFault) : Type 0 where
+      (name : Option (List ℕ)) (old new : Rooms V S O E) (stock : Stock) (workers : List (Worker C L)) (disk : Option D) (fault : Option SessionFault) : Type 0 where
     pub settings : Settings
     pub configured : IsConfigured files shelf_faults name old.shelf new.shelf settings
     pub served : IsServed tells story faults calls readings_of settings (stock.disks settings.core.store_file) stock.word
@@ -135,12 +135,12 @@ module _
 
   -- No store stood open, and no session was served.
   pub record ServesNone
-      (name : Option (List ℕ)) (old new : Rooms V S O E) (stock : Stock) (workers : List (Worker C)) (disk : Option D) (failure : Failure) : Type 0 where
+      (name : Option (List ℕ)) (old new : Rooms V S O E) (stock : Stock) (workers : List (Worker C L)) (disk : Option D) (failure : Failure) : Type 0 where
     pub unserved : IsUnserved old.visitor new.visitor workers
     pub cause : IsNotOpen files shelf_faults tells story faults calls name old.shelf new.shelf stock disk failure
 
   -- what the command comes to, by what went wrong
-  abbrev pub ComesTo : (name : Option (List ℕ)) → Rooms V S O E → Rooms V S O E → Stock → List (Worker C) → Option D → Option Failure → Type 0
+  abbrev pub ComesTo : (name : Option (List ℕ)) → Rooms V S O E → Rooms V S O E → Stock → List (Worker C L) → Option D → Option Failure → Type 0
   ComesTo name old new stock workers disk None = Serves name old new stock workers disk None
   ComesTo name old new stock workers disk (Some (Session fault)) = Serves name old new stock workers disk (Some fault)
   ComesTo name old new stock workers disk (Some Usage) = ServesNone name old new stock workers disk Usage
@@ -148,3 +148,7 @@ module _
   ComesTo name old new stock workers disk (Some NoStoreFile) = ServesNone name old new stock workers disk NoStoreFile
   ComesTo name old new stock workers disk (Some (Store fault)) = ServesNone name old new stock workers disk (Store fault)
   ComesTo name old new stock workers disk (Some (Output fault)) = ⊥
+  ComesTo name old new stock workers disk (Some NoSuchLink) = ⊥
+  ComesTo name old new stock workers disk (Some KindNotBuilt) = ⊥
+  ComesTo name old new stock workers disk (Some Undialled) = ⊥
+  ComesTo name old new stock workers disk (Some (Link fault)) = ⊥

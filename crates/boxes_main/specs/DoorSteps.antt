@@ -16,20 +16,22 @@ use Rattle.boxes_main.specs.declared.failure.Failure.{Failure}
 use Rattle.boxes_main.specs.declared.failure.Failure.TheVariants.{Session}
 use Rattle.boxes_main.specs.declared.session.SessionFault.{SessionFault}
 
--- Room for one item in each of two vectors that have none.
-pub record HasRoom {A B : Type 0} (ends : Vec A Global) (workers : Vec B Global) : Type 0 where
+-- Room for one item in each of three vectors that have none.
+pub record HasRoom {A B C : Type 0} (ends : Vec A Global) (pasts : Vec B Global) (workers : Vec C Global) : Type 0 where
   pub no_ends : ends.items ≡ []
   pub room_for_end : vec_len ends < vec_capacity ends
+  pub no_pasts : pasts.items ≡ []
+  pub room_for_past : vec_len pasts < vec_capacity pasts
   pub no_workers : workers.items ≡ []
   pub room_for_worker : vec_len workers < vec_capacity workers
 
 module _
-    {V S O E D C : Type 0} (course : V → Course)
+    {V S O E D C L : Type 0} (course : V → Course)
     (tells : Bool) (story : D → Story) (faults calls : D → ℕ) (readings_of : C → Option (List ℕ)) where
   -- A session was served over a store.
   pub record ServesOne
       (settings : Settings) (old new : Rooms V S O E) (before after : Stock) (store : Store D)
-      (status : ℕ) (failure : Option Failure) (disk : Option D) (workers : List (Worker C)) : Type 0 where
+      (status : ℕ) (failure : Option Failure) (disk : Option D) (workers : List (Worker C L)) : Type 0 where
     pub others : new ≡ record old { visitor = new.visitor }
     pub stock : after ≡ before
     pub right : status ≡ status_of failure
@@ -40,12 +42,12 @@ module _
         → IsServed tells story faults calls readings_of settings areas word (course old.visitor) (course new.visitor) workers disk fault
 
 module _
-    {V S O E D C : Type 0} (course : V → Course) (files : S → Option (List (List ℕ × List ℕ))) (shelf_faults : S → ℕ)
+    {V S O E D C L : Type 0} (course : V → Course) (files : S → Option (List (List ℕ × List ℕ))) (shelf_faults : S → ℕ)
     (tells : Bool) (story : D → Story) (faults calls : D → ℕ) (readings_of : C → Option (List ℕ)) where
   -- The command came to its end, but for what it says of a failure.
   pub record Ends
       (name : Option (List ℕ)) (old new : Rooms V S O E) (before after : Stock)
-      (status : ℕ) (failure : Option Failure) (disk : Option D) (workers : List (Worker C)) : Type 0 where
+      (status : ℕ) (failure : Option Failure) (disk : Option D) (workers : List (Worker C L)) : Type 0 where
     pub others : new ≡ record old { visitor = new.visitor; shelf = new.shelf }
     pub right : status ≡ status_of failure
     pub made : MakesFor disk before after

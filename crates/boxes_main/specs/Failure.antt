@@ -8,9 +8,10 @@ use Rattle.store_disk.specs.declared.area.Area.TheVariants.{A, B, Pick}
 use Rattle.boxes_main.specs.Giving.{GivesText}
 use Rattle.boxes_main.specs.declared.session.SessionFault.TheVariants as session_is
 use Rattle.boxes_main.specs.declared.printing.OutputFault.TheVariants as output_is
+use Rattle.boxes_main.specs.declared.link_session.LinkFault.TheVariants as link_is
 use Rattle.boxes_main.specs.declared.giving.Cut.{Cut}
 use Rattle.boxes_main.specs.declared.failure.Failure.{Failure}
-use Rattle.boxes_main.specs.declared.failure.Failure.TheVariants.{Usage, Configuration, NoStoreFile, Store, Session, Output}
+use Rattle.boxes_main.specs.declared.failure.Failure.TheVariants.{Usage, Configuration, NoSuchLink, KindNotBuilt, NoStoreFile, Store, Session, Undialled, Link, Output}
 
 -- a text, ended by LF
 abbrev pub line : List ℕ → List ℕ
@@ -34,15 +35,21 @@ area_word Pick = codes "pick"
 abbrev pub misfit : Area → (at : ℕ) → List ℕ
 misfit area at = codes "boxes: store: area " ++ area_word area ++ codes " at " ++ decimal at
 
+-- words and a number
+abbrev pub counted : (words : List ℕ) (number : ℕ) → List ℕ
+counted words number = words ++ decimal number
+
 -- the status of the program, and the line on standard error, by what went wrong
 abbrev pub row_of : Failure → ℕ × List ℕ
-row_of Usage = (2, line (codes "boxes: usage: boxes door CONF | show CONF"))
+row_of Usage = (2, line (codes "boxes: usage: boxes door CONF | show CONF | link CONF ID"))
 row_of (Configuration (config_is.Line file number)) = (3, line (place file number))
 row_of (Configuration (config_is.Value file number)) = (3, line (place file number))
 row_of (Configuration (config_is.Missing group variable)) = (3, line (lack group variable))
 row_of (Configuration config_is.TooDeep) = (3, line (codes "boxes: configuration: too deep"))
 row_of (Configuration config_is.NoFile) = (3, line (codes "boxes: configuration: cannot read"))
 row_of (Configuration config_is.Memory) = (9, line (codes "boxes: out of memory"))
+row_of NoSuchLink = (3, line (codes "boxes: configuration: no such link"))
+row_of KindNotBuilt = (3, line (codes "boxes: configuration: link kind not built"))
 row_of NoStoreFile = (3, line (codes "boxes: configuration: no store-file"))
 row_of (Store (store_is.Foreign area at)) = (4, line (misfit area at))
 row_of (Store store_is.Disk) = (5, line (codes "boxes: store: disk fault"))
@@ -51,6 +58,15 @@ row_of (Session session_is.Disk) = (5, line (codes "boxes: store: disk fault"))
 row_of (Session session_is.Connection) = (6, line (codes "boxes: connection fault"))
 row_of (Session session_is.Budget) = (7, line (codes "boxes: budget spent"))
 row_of (Session session_is.Memory) = (9, line (codes "boxes: out of memory"))
+row_of Undialled = (6, line (codes "boxes: connection fault"))
+row_of (Link link_is.Disk) = (5, line (codes "boxes: store: disk fault"))
+row_of (Link link_is.Connection) = (6, line (codes "boxes: connection fault"))
+row_of (Link link_is.Budget) = (7, line (codes "boxes: budget spent"))
+row_of (Link link_is.Full) = (8, line (codes "boxes: store: full"))
+row_of (Link link_is.Memory) = (9, line (codes "boxes: out of memory"))
+row_of (Link (link_is.LoginRefused code)) = (10, line (counted (codes "boxes: link: login refused ") code))
+row_of (Link (link_is.BadFrame at)) = (10, line (counted (codes "boxes: link: bad frame at ") at))
+row_of (Link (link_is.NoReply tag)) = (10, line (counted (codes "boxes: link: no reply to ") tag))
 row_of (Output output_is.Failed) = (6, line (codes "boxes: connection fault"))
 row_of (Output output_is.Memory) = (9, line (codes "boxes: out of memory"))
 

@@ -2,6 +2,7 @@
 use Rattle.std.specs.Prelude.{◌≡◌, ℕ, Bool, List, [], Option, Some, None, IfSome}
 use Rattle.std.specs.Bool.{OnTrue}
 use Rattle.kn_base.specs.Count.{next_count}
+use Rattle.peer_dialer.specs.Dealings.{Dealings}
 use Rattle.store_disk.specs.Disk.{Areas}
 use Rattle.store_disk.specs.Story.{Story, untold}
 
@@ -38,6 +39,13 @@ pub record IsNewDisk (tells : Bool) (story : Story) (calls faults : ℕ) (stated
 pub record IsNewClock (readings : Option (List ℕ)) (latest : ℕ) : Type 0 where
   pub unread : IfSome readings (λ so_far. so_far ≡ [])
   pub no_latest : latest ≡ 0
+
+-- A dialer that dealt with nothing yet: where what it was asked for is told, or what became of its peers, there is none.
+pub record IsNewDialer (dealings : Dealings) : Type 0 where
+  pub undialled : IfSome dealings.dials (λ so_far. so_far ≡ [])
+  pub no_pasts : IfSome dealings.pasts (λ so_far. so_far ≡ [])
+  pub no_faults : dealings.faults ≡ 0
+  pub none_given : dealings.given ≡ 0
 
 -- a number is the one that was told, where one was
 abbrev pub IsToldWord : Option ℕ → ℕ → Type 0

@@ -6,6 +6,9 @@ pub mod Failure
 pub mod Giving
 pub mod House
 pub mod Lines
+pub mod Link
+pub mod LinkDeeds
+pub mod LinkSteps
 pub mod MemHouse
 pub mod Opening
 pub mod OpeningSteps

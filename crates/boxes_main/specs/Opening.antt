@@ -1,5 +1,5 @@
 -- What stands behind each command that has a store: its configuration was read, and the store that it names was opened.
-use Rattle.std.specs.Prelude.{◌≡◌, ◌≢◌, ℕ, ◌≤◌, Bool, List, [], All, Option, None, Result, Ok, Err, IfSome, IsSomeAnd, IsErrOf, MatchOption}
+use Rattle.std.specs.Prelude.{◌≡◌, ◌≢◌, ℕ, ◌≤◌, Bool, List, [], Option, None, Result, Ok, Err, IfSome, IsSomeAnd, IsErrOf, MatchOption}
 use Rattle.std.specs.Bool.{OnTrue}
 use Rattle.kn_base.specs.Count.{Rose}
 use Rattle.config_groups.specs.Config.{IsConfig}
@@ -17,7 +17,7 @@ use Rattle.gate_store.specs.declared.store_fault.StoreFault.{StoreFault}
 use Rattle.gate_store.specs.declared.store_fault.StoreFault.TheVariants as store_is
 use Rattle.boxes_main.specs.House.{Stock, IsNewDisk, IsToldWord}
 use Rattle.boxes_main.specs.declared.failure.Failure.{Failure}
-use Rattle.boxes_main.specs.declared.failure.Failure.TheVariants.{Usage, Configuration, NoStoreFile, Store, Session, Output}
+use Rattle.boxes_main.specs.declared.failure.Failure.TheVariants.{Usage, Configuration, NoSuchLink, KindNotBuilt, NoStoreFile, Store, Session, Undialled, Link, Output}
 
 module _ {S : Type 0} (files : S → Option (List (List ℕ × List ℕ))) (faults : S → ℕ) where
   -- The configuration of a name was read from a shelf, to settings or a fault: those of its files, where they are told. They stay.
@@ -73,3 +73,7 @@ module _
       × IsNoStore tells story faults calls (stock.disks settings.core.store_file) settings.rules disk fault
   IsNotOpen name old new stock disk (Session fault) = ⊥
   IsNotOpen name old new stock disk (Output fault) = ⊥
+  IsNotOpen name old new stock disk NoSuchLink = ⊥
+  IsNotOpen name old new stock disk KindNotBuilt = ⊥
+  IsNotOpen name old new stock disk Undialled = ⊥
+  IsNotOpen name old new stock disk (Link fault) = ⊥

@@ -16,7 +16,7 @@ use Rattle.route_rules.specs.declared.rules.Rules.{Rules}
 use Rattle.boxes_main.specs.House.{Rooms, Stock}
 use Rattle.boxes_main.specs.Opening.{IsConfigured, IsFound, IsNotOpen}
 use Rattle.boxes_main.specs.declared.failure.Failure.{Failure}
-use Rattle.boxes_main.specs.declared.failure.Failure.TheVariants.{Usage, Configuration, NoStoreFile, Store, Session, Output}
+use Rattle.boxes_main.specs.declared.failure.Failure.TheVariants.{Usage, Configuration, NoSuchLink, KindNotBuilt, NoStoreFile, Store, Session, Undialled, Link, Output}
 use Rattle.boxes_main.specs.declared.printing.OutputFault.{OutputFault}
 use Rattle.boxes_main.specs.declared.printing.OutputFault.TheVariants.{Failed, Memory}
 
@@ -84,3 +84,7 @@ module _
   ComesToShow name old new stock disk (Some NoStoreFile) = ShowsNone name old new stock disk NoStoreFile
   ComesToShow name old new stock disk (Some (Store fault)) = ShowsNone name old new stock disk (Store fault)
   ComesToShow name old new stock disk (Some (Session fault)) = ⊥
+  ComesToShow name old new stock disk (Some NoSuchLink) = ⊥
+  ComesToShow name old new stock disk (Some KindNotBuilt) = ⊥
+  ComesToShow name old new stock disk (Some Undialled) = ⊥
+  ComesToShow name old new stock disk (Some (Link fault)) = ⊥

@@ -16,11 +16,11 @@ use Rattle.boxes_main.specs.declared.failure.Failure.TheVariants.{Output}
 use Rattle.boxes_main.specs.declared.printing.OutputFault.{OutputFault}
 
 module _
-    {V S O E D C : Type 0} (course : O → Course) (tells : Bool) (story : D → Story) (faults calls : D → ℕ) where
+    {V S O E D C L : Type 0} (course : O → Course) (tells : Bool) (story : D → Story) (faults calls : D → ℕ) where
   -- What a store counts was printed.
   pub record ShowsOne
       (rules : Rules) (old new : Rooms V S O E) (before after : Stock) (store : Store D)
-      (status : ℕ) (failure : Option Failure) (disk : Option D) (workers : List (Worker C)) : Type 0 where
+      (status : ℕ) (failure : Option Failure) (disk : Option D) (workers : List (Worker C L)) : Type 0 where
     pub others : new ≡ record old { output = new.output }
     pub stock : after ≡ before
     pub right : status ≡ status_of failure
@@ -32,12 +32,12 @@ module _
         → IsShown tells story faults calls areas word rules (course old.output) (course new.output) disk fault
 
 module _
-    {V S O E D C : Type 0} (course : O → Course) (files : S → Option (List (List ℕ × List ℕ))) (shelf_faults : S → ℕ)
+    {V S O E D C L : Type 0} (course : O → Course) (files : S → Option (List (List ℕ × List ℕ))) (shelf_faults : S → ℕ)
     (tells : Bool) (story : D → Story) (faults calls : D → ℕ) where
   -- The command came to its end, but for what it says of a failure.
   pub record EndsShow
       (name : Option (List ℕ)) (old new : Rooms V S O E) (before after : Stock)
-      (status : ℕ) (failure : Option Failure) (disk : Option D) (workers : List (Worker C)) : Type 0 where
+      (status : ℕ) (failure : Option Failure) (disk : Option D) (workers : List (Worker C L)) : Type 0 where
     pub others : new ≡ record old { shelf = new.shelf; output = new.output }
     pub right : status ≡ status_of failure
     pub no_worker : workers ≡ []

@@ -5,7 +5,8 @@ ghost use Rattle.boxes_main.specs.Failure.{status_of, Tells};
 
 use crate::failure::{status, tell};
 use crate::{Failure, House};
-use kn_base::Items;
+use kn_base::{Items, Past};
+use link_turn::EndCause;
 use sendsms_http::HttpEnd;
 use std::alloc::Global;
 
@@ -14,6 +15,8 @@ use std::alloc::Global;
 pub enum Role {
     /// It served connections over HTTP.
     Http,
+    /// It held sessions of the link with this number, from 0.
+    Link { link: u32 },
 }
 
 /// How a session ended.
@@ -21,6 +24,8 @@ pub enum Role {
 pub enum SessionEnd {
     /// A connection over HTTP.
     Http(HttpEnd),
+    /// A session of a link.
+    Link(EndCause),
 }
 
 /// What a worker left.
@@ -29,8 +34,12 @@ pub struct WorkerEnd<H: House> {
     pub role: Role,
     /// Its clock, where it took one.
     pub clock: Option<H::C>,
+    /// Its dialer, where it took one.
+    pub dialer: Option<H::Di>,
     /// The ends of its sessions, in order.
     pub ends: Items<SessionEnd>,
+    /// What became of the connections that it dialled, in order, where that is told.
+    pub pasts: Items<Past>,
 }
 
 /// What a command left.

@@ -7,7 +7,7 @@ ghost use Rattle.boxes_main.specs.Lines.{text_in};
 
 use crate::command::USAGE;
 use crate::giving::{Cut, give, give_two};
-use crate::{OutputFault, SessionFault};
+use crate::{LinkFault, OutputFault, SessionFault};
 use config_groups::ConfigFault;
 use gate_store::StoreFault;
 use itoa::Buffer;
@@ -21,12 +21,20 @@ pub enum Failure {
     Usage,
     /// The configuration is refused.
     Configuration(ConfigFault),
+    /// The configuration has no link with the id.
+    NoSuchLink,
+    /// The link speaks a protocol that isn't built.
+    KindNotBuilt,
     /// The configuration names no store.
     NoStoreFile,
     /// The store wasn't opened.
     Store(StoreFault),
     /// A session was served, and something failed in it.
     Session(SessionFault),
+    /// No connection to the link's centre could be made.
+    Undialled,
+    /// A session of a link was held, and something failed in it.
+    Link(LinkFault),
     /// The output took not all that was printed.
     Output(OutputFault),
 }
@@ -42,6 +50,8 @@ enum Line<'a> {
     Lack { group: u64, variable: &'a Octets },
     /// The first place of a store that doesn't fit.
     Misfit { area: Area, at: u64 },
+    /// These words, and a number.
+    Counted { words: &'static [u8], number: u64 },
 }
 
 /// The line for want of memory.
@@ -50,8 +60,11 @@ const OUT_OF_MEMORY: &[u8] = b"boxes: out of memory\n";
 /// The line for a disk that failed.
 const DISK_FAULT: &[u8] = b"boxes: store: disk fault\n";
 
-/// The line for standard input or output that failed.
+/// The line for a connection, or standard input or output, that failed.
 const CONNECTION_FAULT: &[u8] = b"boxes: connection fault\n";
+
+/// The line for a session in which as much was heard as may be.
+const BUDGET_SPENT: &[u8] = b"boxes: budget spent\n";
 
 /// The status that the program ends with, and the line for standard error, where the configuration is refused.
 fn configuration_row(fault: &ConfigFault) -> (u8, Line)
@@ -102,6 +115,40 @@ fn store_row(fault: &StoreFault) -> (u8, Line)
     }
 }
 
+/// The same where a session of a link failed.
+fn link_row(fault: &LinkFault) -> (u8, Line)
+    ensures { (result.0, text_in result.1) ≡ row_of (Failure.Link fault.now) }
+{
+    match fault {
+        LinkFault::Disk => (5, Line::Text(DISK_FAULT)),
+        LinkFault::Connection => (6, Line::Text(CONNECTION_FAULT)),
+        LinkFault::Budget => (7, Line::Text(BUDGET_SPENT)),
+        LinkFault::Full => (8, Line::Text(b"boxes: store: full\n")),
+        LinkFault::Memory => (9, Line::Text(OUT_OF_MEMORY)),
+        LinkFault::LoginRefused { code } => (
+            10,
+            Line::Counted {
+                words: b"boxes: link: login refused ",
+                number: u64::from(*code),
+            },
+        ),
+        LinkFault::BadFrame { at } => (
+            10,
+            Line::Counted {
+                words: b"boxes: link: bad frame at ",
+                number: *at,
+            },
+        ),
+        LinkFault::NoReply { tag } => (
+            10,
+            Line::Counted {
+                words: b"boxes: link: no reply to ",
+                number: u64::from(*tag),
+            },
+        ),
+    }
+}
+
 /// The status that the program ends with, and the line for standard error.
 fn row(failure: &Failure) -> (u8, Line)
     ensures { (result.0, text_in result.1) ≡ row_of failure.now }
@@ -109,12 +156,19 @@ fn row(failure: &Failure) -> (u8, Line)
     match failure {
         Failure::Usage => (2, Line::Text(USAGE)),
         Failure::Configuration(fault) => configuration_row(fault),
+        Failure::NoSuchLink => (3, Line::Text(b"boxes: configuration: no such link\n")),
+        Failure::KindNotBuilt => (
+            3,
+            Line::Text(b"boxes: configuration: link kind not built\n"),
+        ),
         Failure::NoStoreFile => (3, Line::Text(b"boxes: configuration: no store-file\n")),
         Failure::Store(fault) => store_row(fault),
         Failure::Session(SessionFault::Disk) => (5, Line::Text(DISK_FAULT)),
         Failure::Session(SessionFault::Connection) => (6, Line::Text(CONNECTION_FAULT)),
-        Failure::Session(SessionFault::Budget) => (7, Line::Text(b"boxes: budget spent\n")),
+        Failure::Session(SessionFault::Budget) => (7, Line::Text(BUDGET_SPENT)),
         Failure::Session(SessionFault::Memory) => (9, Line::Text(OUT_OF_MEMORY)),
+        Failure::Undialled => (6, Line::Text(CONNECTION_FAULT)),
+        Failure::Link(fault) => link_row(fault),
         Failure::Output(OutputFault::Failed) => (6, Line::Text(CONNECTION_FAULT)),
         Failure::Output(OutputFault::Memory) => (9, Line::Text(OUT_OF_MEMORY)),
     }
@@ -181,6 +235,10 @@ fn give_line<S: Sink>(errors: &mut S, line: Line) -> Result<(), Cut>
                 b" at ",
                 places.format(at).as_bytes(),
             )
+        }
+        Line::Counted { words, number } => {
+            let mut numbers = Buffer::new();
+            give_parts(errors, words, numbers.format(number).as_bytes(), b"", b"")
         }
     }
 }

@@ -2,15 +2,17 @@
 
 use crate::House;
 use kn_base::{HostClock, HostErrors, HostPeer, HostShelf, Memory, raised};
+use peer_dialer::HostDialer;
 use std::alloc::Global;
 use std::fs::{File, Files};
+use std::net::Net;
 use std::rt::Runtime;
 use store_disk::HostDisk;
 
-/// Standard input, output and error, the machine's clock, and the files of the folder that the program runs in. Its visitor and its
+/// Standard input, output and error, the machine's clock and network, and the files of the folder that the program runs in. Its visitor and its
 /// output say what they are given on the same standard output.
 #[derive(Drop)]
-pub struct HostHouse<R: Runtime + Files<File = File> + Copy> {
+pub struct HostHouse<R: Runtime + Files<File = File> + Net + Copy> {
     rt: R,
     visitor: HostPeer<R>,
     shelf: HostShelf<R>,
@@ -19,7 +21,7 @@ pub struct HostHouse<R: Runtime + Files<File = File> + Copy> {
     made: u64,
 }
 
-impl<R: Runtime + Files<File = File> + Copy> HostHouse<R> {
+impl<R: Runtime + Files<File = File> + Net + Copy> HostHouse<R> {
     /// The house before its first call.
     pub fn new(rt: R) -> HostHouse<R> {
         HostHouse {
@@ -33,12 +35,14 @@ impl<R: Runtime + Files<File = File> + Copy> HostHouse<R> {
     }
 }
 
-impl<R: Runtime + Files<File = File> + Copy> House for HostHouse<R> {
+impl<R: Runtime + Files<File = File> + Net + Copy> House for HostHouse<R> {
     type V = HostPeer<R>;
 
     type D = HostDisk<R>;
 
     type C = HostClock<R>;
+
+    type Di = HostDialer<R>;
 
     type S = HostShelf<R>;
 
@@ -83,6 +87,10 @@ impl<R: Runtime + Files<File = File> + Copy> House for HostHouse<R> {
 
     fn clock(&mut self) -> HostClock<R> {
         HostClock::new(self.rt)
+    }
+
+    fn dialer(&mut self) -> HostDialer<R> {
+        HostDialer::new(self.rt)
     }
 
     /// The nanoseconds since 1970, which no other store of this machine was born with.

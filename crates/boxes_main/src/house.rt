@@ -2,14 +2,15 @@
 
 ghost use Rattle.std.specs.Prelude.{◌≡◌, IfOk, OnOk, OnErr};
 ghost use Rattle.std.specs.Borrow.{sem, Lends};
-ghost use Rattle.boxes_main.specs.House.{Rooms, Stock, MakesOne, IsNewDisk, IsNewClock, IsToldWord};
+ghost use Rattle.boxes_main.specs.House.{Rooms, Stock, MakesOne, IsNewDisk, IsNewClock, IsNewDialer, IsToldWord};
 
 use kn_base::{Clock, Memory, Peer, Shelf, Sink};
+use peer_dialer::Dialer;
 use std::alloc::Global;
 use store_disk::Disk;
 
-/// All that a command takes of the outside: the connection on standard input and output, disks, clocks, files, and the sinks on
-/// standard output and standard error. No call opens a file.
+/// All that a command takes of the outside: the connection on standard input and output, disks, clocks, dialers, files, and the
+/// sinks on standard output and standard error. No call opens a file.
 pub trait House {
     /// Standard input and output.
     type V: Peer;
@@ -19,6 +20,9 @@ pub trait House {
 
     /// A clock.
     type C: Clock + Drop;
+
+    /// Who makes connections to centres.
+    type Di: Dialer + Drop;
 
     /// The files of a configuration.
     type S: Shelf;
@@ -70,6 +74,12 @@ pub trait House {
         ensures rooms { rooms self.new ≡ rooms self.old }
         ensures stock { stock self.new ≡ stock self.old }
         ensures clock { IsNewClock (Self.C.readings result) (Self.C.latest result) };
+
+    /// A dialer that dealt with nothing yet.
+    fn dialer(&mut self) -> Self::Di
+        ensures rooms { rooms self.new ≡ rooms self.old }
+        ensures stock { stock self.new ≡ stock self.old }
+        ensures dialer { IsNewDialer (Self.Di.dealings result) };
 
     /// The birth of a store that isn't born yet.
     fn word(&mut self) -> u64

@@ -2,19 +2,20 @@
 
 ghost use Rattle.std.specs.Prelude.{◌≡◌, true, Some, drop, IfOk, OnOk, OnErr};
 ghost use Rattle.boxes_main.specs.Disks.{disk_under, without, areas_in, failing_in};
-ghost use Rattle.boxes_main.specs.House.{MakesOne, IsNewDisk, IsNewClock, IsToldWord};
+ghost use Rattle.boxes_main.specs.House.{MakesOne, IsNewDisk, IsNewClock, IsNewDialer, IsToldWord};
 ghost use Rattle.store_disk.specs.MemDisk.{mem_calls, mem_faults, mem_story};
 ghost use Rattle.store_disk.specs.Story.{untold};
 
 use crate::House;
-use kn_base::{MemClock, MemPeer, MemShelf, Memory, Octets, raised};
+use kn_base::{MemClock, MemPeer, MemShelf, Memory, Octets, Peer, raised};
+use peer_dialer::MemDialer;
 use std::alloc::Global;
 use store_disk::MemDisk;
 
-/// A house that hands out what its lists hold, as new: clocks in their order, and disks by their names, of two under
+/// A house that hands out what its lists hold, as new: clocks and dialers in their order, and disks by their names, of two under
 /// one name the first. Where a list is used up it hands out one without contents.
 #[derive(Drop)]
-pub struct MemHouse {
+pub struct MemHouse<P: Peer + Drop> {
     alloc: Global,
     visitor: MemPeer,
     shelf: MemShelf,
@@ -22,12 +23,13 @@ pub struct MemHouse {
     errors: MemPeer,
     word: u64,
     clocks: Vec<MemClock>,
+    dialers: Vec<MemDialer<P>>,
     disks: Vec<(Octets, MemDisk)>,
     made: u64,
 }
 
-impl MemHouse {
-    ghost use Rattle.boxes_main.specs.MemHouse.{mem_rooms, mem_stock, clocks_of, disks_of};
+impl<P: Peer + Drop> MemHouse<P> {
+    ghost use Rattle.boxes_main.specs.MemHouse.{mem_rooms, mem_stock, clocks_of, dialers_of, disks_of};
 
     /// A house that handed out nothing yet. It takes no memory.
     pub fn new(
@@ -38,11 +40,13 @@ impl MemHouse {
         errors: MemPeer,
         word: u64,
         clocks: Vec<MemClock>,
+        dialers: Vec<MemDialer<P>>,
         disks: Vec<(Octets, MemDisk)>,
-    ) -> MemHouse
+    ) -> MemHouse<P>
         ensures rooms { mem_rooms result ≡ record { visitor = visitor; shelf = shelf; output = output; errors = errors } }
         ensures stock { mem_stock result ≡ record { disks = λ name. areas_in (disk_under name disks.items); word = Some word; made = 0 } }
         ensures clocks { clocks_of result ≡ clocks.items }
+        ensures dialers { dialers_of result ≡ dialers.items }
         ensures disks { disks_of result ≡ disks.items }
     {
         MemHouse {
@@ -53,6 +57,7 @@ impl MemHouse {
             errors,
             word,
             clocks,
+            dialers,
             disks,
             made: 0,
         }
@@ -98,12 +103,14 @@ fn new_disk(alloc: Global, disk: Option<MemDisk>) -> MemDisk
     }
 }
 
-impl House for MemHouse {
+impl<P: Peer + Drop> House for MemHouse<P> {
     type V = MemPeer;
 
     type D = MemDisk;
 
     type C = MemClock;
+
+    type Di = MemDialer<P>;
 
     type S = MemShelf;
 
@@ -113,7 +120,8 @@ impl House for MemHouse {
 
     ghost use Rattle.std.specs.Prelude.{refl};
     ghost use Rattle.kn_base.specs.MemClock.{answers_of, readings_of, latest_of};
-    ghost use Rattle.boxes_main.specs.MemHouse.{mem_rooms, mem_stock, clocks_of, disks_of, next_answers};
+    ghost use Rattle.peer_dialer.specs.MemDialer.{mem_dealings, peers_of, dials_of};
+    ghost use Rattle.boxes_main.specs.MemHouse.{mem_rooms, mem_stock, clocks_of, dialers_of, disks_of, next_answers, next_peers, next_failing};
 
     ghost rooms = { mem_rooms };
 
@@ -150,6 +158,7 @@ impl House for MemHouse {
         ensures failing { IfOk result (λ disk. (mem_calls disk).failing ≡ failing_in (disk_under name.now (disks_of self.old))) }
         ensures left { disks_of self.new ≡ without name.now (disks_of self.old) }
         ensures clocks { clocks_of self.new ≡ clocks_of self.old }
+        ensures dialers { dialers_of self.new ≡ dialers_of self.old }
     {
         self.made = raised(self.made);
         Ok(new_disk(self.alloc, take_under(&mut self.disks, name)))
@@ -162,12 +171,31 @@ impl House for MemHouse {
         ensures clock { IsNewClock (readings_of result) (latest_of result) }
         ensures first { answers_of result ≡ next_answers (clocks_of self.old) }
         ensures left { clocks_of self.new ≡ drop 1 (clocks_of self.old) }
+        ensures dialers { dialers_of self.new ≡ dialers_of self.old }
         ensures disks { disks_of self.new ≡ disks_of self.old }
     {
         if self.clocks.is_empty() {
             MemClock::new(self.alloc, Vec::new(self.alloc))
         } else {
             self.clocks.remove(0).anew()
+        }
+    }
+
+    /// The first dialer of the list, with its peers and its failing dials, and one without peers where it is used up.
+    fn dialer(&mut self) -> MemDialer<P>
+        ensures rooms { mem_rooms self.new ≡ mem_rooms self.old }
+        ensures stock { mem_stock self.new ≡ mem_stock self.old }
+        ensures dialer { IsNewDialer (mem_dealings result) }
+        ensures first { peers_of result ≡ next_peers (dialers_of self.old) }
+        ensures failing { dials_of result ≡ record { failing = next_failing (dialers_of self.old); made = 0 } }
+        ensures left { dialers_of self.new ≡ drop 1 (dialers_of self.old) }
+        ensures clocks { clocks_of self.new ≡ clocks_of self.old }
+        ensures disks { disks_of self.new ≡ disks_of self.old }
+    {
+        if self.dialers.is_empty() {
+            MemDialer::new(self.alloc, Vec::new(self.alloc), Vec::new(self.alloc))
+        } else {
+            self.dialers.remove(0).anew()
         }
     }
 

@@ -24,7 +24,7 @@ pub(crate) struct Unopened<H: House> {
 }
 
 /// Reads the configuration of that name from the house's shelf.
-fn read_settings<H: House>(
+pub(crate) fn read_settings<H: House>(
     alloc: Global,
     house: &mut H,
     name: &[u8],
@@ -65,7 +65,7 @@ fn without_memory<H: House>() -> Unopened<H>
 }
 
 /// Opens the store of settings on a disk of the house.
-fn open_store<H: House>(
+pub(crate) fn open_store<H: House>(
     alloc: Global,
     house: &mut H,
     settings: &Settings,

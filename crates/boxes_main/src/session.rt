@@ -1,6 +1,6 @@
 //! One session over an open store: it is served, and the store is closed.
 
-ghost use Rattle.std.specs.Prelude.{◌≡◌, [], ◌∷◌, Some, IfOk, is_some, map, option_map};
+ghost use Rattle.std.specs.Prelude.{◌≡◌, [], ◌∷◌, Some, None, IfOk, is_some, map, option_map};
 ghost use Rattle.config_groups.specs.Ranges.{AreSettings};
 ghost use Rattle.gate_store.specs.Store.{IsOpen, unsure_in};
 ghost use Rattle.boxes_main.specs.Door.{fault_by};
@@ -11,7 +11,7 @@ use crate::failure::status;
 use crate::opening::Opened;
 use crate::{Ended, Failure, House, Role, SessionEnd, WorkerEnd};
 use gate_store::Store;
-use kn_base::{Items, Memory};
+use kn_base::{Items, Memory, Past};
 use sendsms_http::{HttpEnd, serve_http};
 use std::alloc::Global;
 use store_disk::Disk;
@@ -57,34 +57,39 @@ fn failure_of(is_unsure: bool, end: HttpEnd) -> Option<Failure>
 /// Room for what a session leaves, taken before anything is done.
 #[derive(Drop)]
 pub(crate) struct Room<H: House> {
-    ends: Vec<SessionEnd>,
-    workers: Vec<WorkerEnd<H>>,
+    pub(crate) ends: Vec<SessionEnd>,
+    pub(crate) pasts: Vec<Past>,
+    pub(crate) workers: Vec<WorkerEnd<H>>,
 }
 
 /// Takes the room for one session.
 pub(crate) fn make_room<H: House>(alloc: Global) -> Result<Room<H>, Memory>
-    ensures { IfOk result (λ room. HasRoom room.ends room.workers) }
+    ensures { IfOk result (λ room. HasRoom room.ends room.pasts room.workers) }
 {
     Ok(Room {
         ends: Vec::with_capacity(alloc, 1)?,
+        pasts: Vec::with_capacity(alloc, 1)?,
         workers: Vec::with_capacity(alloc, 1)?,
     })
 }
 
 /// What one worker left: the end of its one session over HTTP, and its clock.
 fn leave<H: House>(room: Room<H>, clock: H::C, end: HttpEnd) -> Items<WorkerEnd<H>>
-    requires { HasRoom room.ends room.workers }
-    ensures { map worker_of result ≡ record { role = Role.Http; clock = Some clock; ends = SessionEnd.Http end ∷ [] } ∷ [] }
+    requires { HasRoom room.ends room.pasts room.workers }
+    ensures { map worker_of result ≡ record { role = Role.Http; clock = Some clock; dialer = None; ends = SessionEnd.Http end ∷ []; pasts = [] } ∷ [] }
 {
     let Room {
         mut ends,
+        pasts,
         mut workers,
     } = room;
     ends.push_reserved(SessionEnd::Http(end));
     workers.push_reserved(WorkerEnd {
         role: Role::Http,
         clock: Some(clock),
+        dialer: None,
         ends: Items::from_vec(ends),
+        pasts: Items::from_vec(pasts),
     });
     Items::from_vec(workers)
 }
@@ -105,7 +110,7 @@ pub(crate) fn serve<H: House>(
 ) -> Ended<H>
     requires open { IsOpen H.D.tells H.D.story opened.store }
     requires in_range { AreSettings opened.settings }
-    requires room { HasRoom room.ends room.workers }
+    requires room { HasRoom room.ends room.pasts room.workers }
     ensures { ServesOne H.V.course H.D.tells H.D.story H.D.faults H.D.calls H.C.readings opened.settings
         (H.rooms house.old) (H.rooms house.new) (H.stock house.old) (H.stock house.new) opened.store
         result.status result.failure result.disk (map worker_of result.workers) }

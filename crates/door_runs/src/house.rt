@@ -173,7 +173,7 @@ pub fn house_of(
     case: Case,
     failing: Failing,
     disk: MemDisk,
-) -> Result<MemHouse, Memory> {
+) -> Result<MemHouse<MemPeer>, Memory> {
     let of_output = if case.output_fails {
         Some(0)
     } else {
@@ -186,5 +186,8 @@ pub fn house_of(
     let stock = both(clocks_of(alloc), named(alloc, disk));
     let ((visitor, shelf), (clocks, disks)) = both(rooms, stock)?;
     let (output, errors) = sinks_of(alloc, of_output)?;
-    Ok(MemHouse::new(alloc, visitor, shelf, output, errors, 1, clocks, disks))
+    let dialers = Vec::new(alloc);
+    Ok(MemHouse::new(
+        alloc, visitor, shelf, output, errors, 1, clocks, dialers, disks,
+    ))
 }

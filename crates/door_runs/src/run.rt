@@ -6,7 +6,7 @@ use crate::house::{Failing, NONE_FAILS, disk_of, house_of};
 use crate::outcome::{Outcome, put_disk, put_outcome, put_said};
 use crate::stops::run_each_stop;
 use boxes_main::{House, MemHouse, door, show};
-use kn_base::{Memory, Octets, Peer};
+use kn_base::{MemPeer, Memory, Octets, Peer};
 use line_cases::{cut_at, words_of};
 use std::alloc::Global;
 use store_disk::MemDisk;
@@ -44,7 +44,7 @@ fn put_sinks<O: Peer + Drop, E: Peer + Drop>(
 }
 
 /// Puts what became of a house into the outcome.
-fn put_house(outcome: &mut Outcome, house: MemHouse) -> Result<(), Memory> {
+fn put_house(outcome: &mut Outcome, house: MemHouse<MemPeer>) -> Result<(), Memory> {
     let (visitor, output, errors) = house.into_peers();
     put_sinks(outcome, output, errors)?;
     outcome.visitor_failed = put_said(&mut outcome.said, visitor)?;
@@ -55,7 +55,7 @@ fn put_house(outcome: &mut Outcome, house: MemHouse) -> Result<(), Memory> {
 fn run_in(
     alloc: Global,
     case: Case,
-    house: MemHouse,
+    house: MemHouse<MemPeer>,
     outcome: &mut Outcome,
 ) -> Result<Option<MemDisk>, Memory> {
     let mut house = house;

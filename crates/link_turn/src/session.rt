@@ -88,6 +88,7 @@ enum Phase {
 ///                                            v                                                           |
 ///   no frame, no memory, refused, bye -->  leaves: Pass each message that it holds, Pass Down, Over <----+
 /// ```
+#[derive(Drop)]
 pub struct Session<C: LinkCore> {
     alloc: Global,
     core: C,

@@ -53,6 +53,25 @@ impl<P: Peer + Drop> MemDialer<P> {
         }
     }
 
+    /// The dialer with its list and the numbers of the dials that are to fail, as one that wasn't asked for anything yet.
+    pub fn anew(self) -> MemDialer<P>
+        ensures dealings { mem_dealings result ≡ fresh_dealings (length (peers_of self)) }
+        ensures peers { peers_of result ≡ peers_of self }
+        ensures dials { dials_of result ≡ record { failing = (dials_of self).failing; made = 0 } }
+    {
+        MemDialer {
+            alloc: self.alloc,
+            peers: self.peers,
+            calls: self.calls.anew(),
+            told: Some(Told {
+                dials: Vec::new(self.alloc),
+                pasts: Some(Vec::new(self.alloc)),
+            }),
+            faults: 0,
+            given: 0,
+        }
+    }
+
     /// What was asked for, in order, where it is told.
     pub fn dials(&self) -> Option<&[Asked]>
         ensures { option_map (λ dials. dials.now) result ≡ (mem_dealings self.now).dials }

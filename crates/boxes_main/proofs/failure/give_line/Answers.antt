@@ -1,4 +1,5 @@
 use Rattle.std.proofs.Common.{List, ℕ, [], ◌∷◌, ◌++◌, ◌∙◌, codes, decimal, subst}
+use Rattle.std.proofs.lemmas.List.{append-nil}
 use Rattle.boxes_main.specs.Giving.{GivesText}
 use Rattle.boxes_main.proofs.failure.give_line.Goals as goal
 
@@ -28,3 +29,13 @@ returns-in-Misfit g c =
     rw c.in-Misfit.is
     (subst (λ area. P area (decimal c.in-Misfit.at)) c.word_of.ensures
     (subst (λ place. P c.word_of.result.now place) (c.as_bytes-in-Misfit.ensures.value ∙ c.format-in-Misfit.ensures.text) c.give_parts-in-Misfit.ensures))
+
+pub returns-in-Counted : goal.returns-in-Counted
+returns-in-Counted g c =
+    let course = g.S.Meter.course in
+    let words = c.in-Counted.words.now in
+    let P : List ℕ → Type 0 = λ text. GivesText (text ++ 10 ∷ []) c.give_parts-in-Counted.result (course c.args.errors.now) (course c.give_parts-in-Counted.new.errors) in
+    rw c.in-Counted.is
+    (subst (λ number. P (words ++ number)) (c.as_bytes-in-Counted.ensures.value ∙ c.format-in-Counted.ensures.text)
+    (subst P (append-nil (words ++ c.as_bytes-in-Counted.result.now))
+    (subst P (append-nil ((words ++ c.as_bytes-in-Counted.result.now) ++ [])) c.give_parts-in-Counted.ensures)))
