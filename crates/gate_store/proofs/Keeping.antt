@@ -13,7 +13,7 @@ use Rattle.route_rules.specs.declared.rules.Rules.{Rules}
 use Rattle.store_disk.specs.Story.{Story}
 use Rattle.gate_store.specs.Deeds.{Performs, Passes, Takes, TakesNext, TakesMessage, Withholds, given_up, put_behind}
 use Rattle.gate_store.specs.Entries.{state_of}
-use Rattle.gate_store.specs.Store.{IsOpen, IsOpened, rules_in, state_in}
+use Rattle.gate_store.specs.Store.{IsOpen, IsOpened, birth_in, rules_in, state_in}
 use Rattle.gate_store.specs.declared.store.Store.{Store}
 use Rattle.gate_store.specs.declared.taken.Taken.{Taken}
 use Rattle.gate_store.specs.declared.taken.Taken.TheVariants as taken
@@ -73,7 +73,7 @@ module _ {D : Type 0} (tells : Bool) (story : D → Story) (faults calls : D →
   pub opened_settled : (disk : D) (rules : Rules) (birth : ℕ) (store : Store D) → IsOpened tells story faults calls disk rules birth store
       → settle (state_in store) ≡ state_in store
   opened_settled disk rules birth store is =
-      is.holds.state ∙ ap (λ r. state_of r is.entries) is.ruled ∙ sym is.state
+      is.holds.state ∙ ap (λ r. state_of (birth_in store) r is.entries) is.ruled ∙ sym is.state
 
 down_at : (ups : List Bool) (at : ℕ) → at < length ups → slice_get (map (λ (up : Bool). false) ups) at ≡ Some false
 down_at [] at within = absurd (omega (arith, within))
