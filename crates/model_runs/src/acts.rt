@@ -29,7 +29,7 @@ pub(crate) fn put_totals(report: &mut Octets, totals: Totals) -> Result<(), Memo
 }
 
 /// Puts the counts of reports last.
-fn put_report_totals(report: &mut Octets, totals: Totals) -> Result<(), Memory> {
+pub(crate) fn put_report_totals(report: &mut Octets, totals: Totals) -> Result<(), Memory> {
     put_named(report, b"awaited ", totals.awaited)?;
     put_named(report, b" unmatched ", totals.unmatched)?;
     put_named(report, b" jobs ", totals.jobs)?;
