@@ -28,9 +28,13 @@ value_in tag octets = first_value tag (found (filled_at tlv_at tlv (length octet
 abbrev pub is_blank : ℕ → Bool
 is_blank octet = octet == 32 || octet == 9 || octet == 13 || octet == 10
 
--- what stands behind a name in the first word that begins with it
+-- the first word of a text that begins with a name
+abbrev pub word_with : (name text : List ℕ) → Option (List ℕ)
+word_with name text = find (λ word. starts_with ◌==◌ word name) (slice_split is_blank text)
+
+-- what stands behind the name in it
 abbrev pub word_behind : (name text : List ℕ) → Option (List ℕ)
-word_behind name text = option_map (drop (length name)) (find (λ word. starts_with ◌==◌ word name) (slice_split is_blank text))
+word_behind name text = option_map (drop (length name)) (word_with name text)
 
 -- ---- the centre's id of the message: receipted_message_id (5.3.2.12), else what the text says
 

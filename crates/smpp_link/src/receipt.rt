@@ -1,8 +1,7 @@
 //! What a report of the centre says: a delivery receipt (SMPP 3.4, 4.6.1 and appendix B). Its optional parameters go first, and then the words of its text.
 
-ghost use Rattle.std.specs.Prelude.{◌≡◌, take, codes, IfOk};
+ghost use Rattle.std.specs.Prelude.{◌≡◌, take, drop, codes, option_copied, IfOk};
 ghost use Rattle.smpp_wire.specs.Grammar.{AreTlvs};
-ghost use Rattle.smpp_wire.specs.Tlvs.{IsValue};
 ghost use Rattle.smpp_link.specs.Receipts as spec;
 
 use kn_base::{Memory, Octets};
@@ -30,7 +29,7 @@ const UNKNOWN: u8 = 7;
 /// The value of the first parameter with a tag.
 fn value_of(tlvs: &[u8], tag: u16) -> Option<&[u8]>
     requires { AreTlvs tlvs.now }
-    ensures { IsValue (spec.value_in tag tlvs.now) result }
+    ensures { option_copied result ≡ spec.value_in tag tlvs.now }
 {
     tlv_value(tlvs, tag)
 }
@@ -42,14 +41,33 @@ fn is_blank(octet: u8) -> bool
     octet == b' ' || octet == b'\t' || octet == b'\r' || octet == b'\n'
 }
 
+/// The first word of a text that begins with a name.
+fn word_with<'a>(name: &[u8], text: &'a [u8]) -> Option<&'a [u8]>
+    ensures { option_copied result ≡ spec.word_with name.now text.now }
+{
+    text.split(|octet| is_blank(*octet))
+        .find(|word| word.starts_with(name))
+}
+
+/// What stands behind so many octets.
+fn behind(octets: &[u8], len: usize) -> &[u8]
+    ensures { result.now ≡ drop len octets.now }
+{
+    if octets.len() < len {
+        &[]
+    } else {
+        &octets[len..]
+    }
+}
+
 /// What stands behind a name in the first word of a text that begins with it.
 fn word_behind<'a>(name: &[u8], text: &'a [u8]) -> Option<&'a [u8]>
-    ensures { IsValue (spec.word_behind name.now text.now) result }
+    ensures { option_copied result ≡ spec.word_behind name.now text.now }
 {
-    let word = text
-        .split(|octet| is_blank(*octet))
-        .find(|word| word.starts_with(name))?;
-    Some(&word[name.len()..])
+    match word_with(name, text) {
+        Some(word) => Some(behind(word, name.len())),
+        None => None,
+    }
 }
 
 /// A text without the 00 that ends it.
