@@ -125,13 +125,15 @@ fn put_fronts<C: LinkCore>(
 }
 
 /// The body of a deliver_sm from 0456789 to 13013 that is a report, up to the length of its text.
-const BEFORE_THE_TEXT: &[u8] = b"\x00\x00\x000456789\x00\x00\x0113013\x00\x04\x00\x00\x00\x00\x00\x00\x00\x00";
+const BEFORE_THE_TEXT: &[u8] =
+    b"\x00\x00\x000456789\x00\x00\x0113013\x00\x04\x00\x00\x00\x00\x00\x00\x00\x00";
 /// The command_id, status and number of its header.
 const BEHIND_THE_LENGTH: &[u8] = b"\x00\x00\x00\x05\x00\x00\x00\x00\x00\x00\x00\x07";
 /// The most octets of a text.
 const MOST_TEXT: usize = 254;
 /// How many octets a header has, and the most of a body that are counted.
 const HEADER_LEN: usize = 16;
+
 const MOST_BODY: usize = 65_520;
 
 /// The body of a report: its TLVs, and behind a bar its text.

@@ -157,12 +157,7 @@ fn kept(id: &[u8]) -> &[u8]
 ///
 /// # Errors
 /// `Memory`.
-pub(crate) fn reported(
-    alloc: Global,
-    tag: u32,
-    text: &[u8],
-    tlvs: &[u8],
-) -> Result<Heard, Memory>
+pub(crate) fn reported(alloc: Global, tag: u32, text: &[u8], tlvs: &[u8]) -> Result<Heard, Memory>
     requires { AreTlvs tlvs.now }
     ensures { IfOk result (λ heard. heard ≡ spec.reported tag text.now tlvs.now) }
 {
