@@ -45,13 +45,16 @@ after_both : (birth : ℕ) (state : State) (before later : List Recorded)
 after_both birth state before later =
     ap (after birth state) (map-append recorded before later) ∙ fold-append (does birth) state (map recorded before) (map recorded later)
 
+abbrev url_under : ℕ × Job → ℕ × List ℕ
+url_under pair = (pair.0, pair.1.url)
+
 -- the URLs of jobs stay when a store is opened again
 urls-settle : (state : State) → urls_of (settle state) ≡ urls_of state
 urls-settle state = same state.jobs
   where
-    same : (jobs : List (ℕ × Job)) → map (λ pair. (pair.0, pair.1.url)) (with_changes free_job jobs) ≡ map (λ pair. (pair.0, pair.1.url)) jobs
+    same : (jobs : List (ℕ × Job)) → map url_under (with_changes free_job jobs) ≡ map url_under jobs
     same [] = refl
-    same (job ∷ jobs) = ap (λ urls. (job.0, job.1.url) ∷ urls) (same jobs)
+    same (job ∷ jobs) = ap (λ (urls : List (ℕ × List ℕ)). url_under job ∷ urls) (same jobs)
 
 module _ {D : Type 0} (tells : Bool) (story : D → Story) (store : Store D) where
   -- what a store awaits, and which jobs it holds, follows from its entries
