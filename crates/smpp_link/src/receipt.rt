@@ -142,14 +142,14 @@ fn kind_in(text: &[u8], tlvs: &[u8]) -> Kind
     }
 }
 
-/// The first octets of an id, as many as are kept.
-fn kept(id: &[u8]) -> &[u8]
-    ensures { result.now ≡ take MOST_ID id.now }
+/// The first octets, so many at most.
+fn front(octets: &[u8], most: usize) -> &[u8]
+    ensures { result.now ≡ take most octets.now }
 {
-    if id.len() <= MOST_ID {
-        id
+    if octets.len() <= most {
+        octets
     } else {
-        &id[..MOST_ID]
+        &octets[..most]
     }
 }
 
@@ -161,7 +161,7 @@ pub(crate) fn reported(alloc: Global, tag: u32, text: &[u8], tlvs: &[u8]) -> Res
     requires { AreTlvs tlvs.now }
     ensures { IfOk result (λ heard. heard ≡ spec.reported tag text.now tlvs.now) }
 {
-    let foreign = Octets::from_slice(alloc, kept(id_in(text, tlvs)))?;
+    let foreign = Octets::from_slice(alloc, front(id_in(text, tlvs), MOST_ID))?;
     let kind = kind_in(text, tlvs);
     let text = Octets::from_slice(alloc, text)?;
     Ok(Heard::Report {
