@@ -20,7 +20,7 @@ use Rattle.route_rules.specs.declared.rules.Rules.{Rules}
 use Rattle.gate_store.specs.Deeds.{Leads, done_of}
 use Rattle.gate_store.specs.Store.{IsStore, IsOpened, disk_in, birth_in, rules_in, state_in, unsure_in}
 use Rattle.gate_store.specs.declared.store.Store.{Store}
-use Rattle.gate_store.proofs.Commits.{reasoned, ruled_on, gained, doubted}
+use Rattle.gate_store.proofs.Commits.{reasoned, ruled_on, gained, doubted, born_on}
 use Rattle.gate_store.proofs.Told.{told_both, told_leaves_weaker}
 use Rattle.boxes_main.specs.Door.{IsInDoubt, IsSession, ReopensAmid, octets_limit, fault_by}
 use Rattle.boxes_main.specs.DoorSteps.{ServesOne}
@@ -60,8 +60,8 @@ module _
     (areas : Areas) (disk : D) (rules : Rules) (birth : ℕ) (store : Store D)
     (new_disk : IsHouseDisk tells story faults calls areas disk) (is : IsOpened tells story faults calls disk rules birth store) where
   -- each entry came in its turn, by the rules
-  turns : AreInTurn (start rules) is.entries
-  turns = subst (λ (r : Rules). AreInTurn (start r) is.entries) is.ruled is.holds.in_turn
+  turns : AreInTurn (birth_in store) (start rules) is.entries
+  turns = subst (λ (r : Rules). AreInTurn (birth_in store) (start r) is.entries) is.ruled is.holds.in_turn
 
   -- a store that was opened is what the areas stood for
   pub found_by : (word : Option ℕ) → IsToldWord word birth → IsFound tells areas word rules (birth_in store) is.entries
@@ -73,7 +73,7 @@ module _
   }
 
   -- whenever the opening stopped, the areas reopen to the state that it found
-  pub opened_stops : OnTrue tells (LeavesOnly (untold areas) (story (disk_in store)) (ReopensTo rules (state_of rules is.entries)))
+  pub opened_stops : OnTrue tells (LeavesOnly (untold areas) (story (disk_in store)) (ReopensTo rules (state_of (birth_in store) rules is.entries)))
   opened_stops = told_three tells _ _ _ _
       (λ same stood alike. opening_stops (story disk) (story (disk_in store)) areas rules (birth_in store) is.entries same stood turns alike) new_disk.told is.stood is.stops
 
@@ -93,7 +93,7 @@ module _ {D : Type 0} (tells : Bool) (story : D → Story) (faults calls : D →
   -- and reopens to its state
   abbrev pub ClosesTo : Store D → D → Type 0
   ClosesTo store disk = (birth : ℕ) (entries : List Recorded) → IsStore tells story store birth entries
-      → OnTrue tells ((image : Areas) → IsImage (story disk) image → MayReopen (rules_in store) (state_in store) (unsure_in store) image)
+      → OnTrue tells ((image : Areas) → IsImage (story disk) image → MayReopen (birth_in store) (rules_in store) (state_in store) (unsure_in store) image)
 
   -- the session over a store that was opened
   pub session_by : (settings : Settings) (store later : Store D) (old new : Course) (readings : List ℕ) (deeds : List Deed) (end : HttpEnd) (disk : D)
@@ -104,12 +104,14 @@ module _ {D : Type 0} (tells : Bool) (story : D → Story) (faults calls : D →
       → IsSession tells story faults calls settings areas word old new readings end disk (fault_by (is_some (unsure_in later)) end)
   session_by settings store later old new readings deeds end disk talks led counts same closes_as closes_to areas word birth found told new_disk is =
       let rules = settings.rules in
+      let birth_there = birth_in store in
       let all = is.entries ++ done_of deeds in
       let ruled : rules_in later ≡ rules = ruled_on tells story faults calls store later deeds led ∙ is.ruled in
-      let state : state_in later ≡ state_of rules all = state_after tells story faults calls rules is.entries deeds store later is.state led in
+      let born : birth_in later ≡ birth_there = born_on tells story faults calls store later deeds led in
+      let state : state_in later ≡ state_of birth_there rules all = state_after tells story faults calls birth_there rules is.entries deeds store later refl is.state led in
       let holds : IsStore tells story later (birth_in store) all = gained tells story faults calls store later deeds led (birth_in store) is.entries is.holds in
       let sure : IfSome (unsure_in store) (IsInDoubt []) = subst (λ (u : Option Recorded). IfSome u (IsInDoubt [])) (sym is.sure) tt in
-      let calls_more = calls_after tells story faults calls rules is.entries deeds store later led in
+      let calls_more = calls_after tells story faults calls birth_there rules is.entries deeds store later led in
       let calls_first = opened_calls tells story faults calls areas found rules birth store new_disk is in
       record {
         birth = birth_in store;
@@ -117,19 +119,20 @@ module _ {D : Type 0} (tells : Bool) (story : D → Story) (faults calls : D →
         found = found_by tells story faults calls areas found rules birth store new_disk is word told;
         deeds = deeds;
         talks = talks;
-        reasoned = reasoned tells story faults calls rules (state_of rules is.entries) store later deeds led is.ruled is.state;
+        reasoned = reasoned tells story faults calls birth_there rules (state_of birth_there rules is.entries) store later deeds led refl is.ruled is.state;
         stored = ap done_of talks.talk.handed_in ∙ talk_done settings talks.ended talks.talk.kept talks.talk.last talks.talk.kept_each talks.talk.last_one;
         unsure = unsure_in later;
         doubt = in_doubt [] deeds (unsure_in store) (unsure_in later) sure (doubted tells story faults calls store later deeds led);
         stands = closes_as (birth_in store) all holds;
-        stops = subst (λ (s : State). OnTrue tells ((image : Areas) → IsImage (story disk) image → MayReopen rules s (unsure_in later) image)) state
-            (subst (λ (r : Rules). OnTrue tells ((image : Areas) → IsImage (story disk) image → MayReopen r (state_in later) (unsure_in later) image)) ruled
-            (closes_to (birth_in store) all holds));
-        amid = subst (λ (d : D). OnTrue tells (LeavesOnly (untold areas) (story d) (ReopensAmid rules is.entries deeds))) (sym same)
-            (amid tells story faults calls rules is.entries deeds (untold areas) [] deeds store later refl is.ruled
-            (is.state ∙ ap (state_of rules) (sym (append-nil is.entries))) sure
-            (told_leaves_weaker tells (untold areas) (story (disk_in store)) (ReopensTo rules (state_of rules is.entries)) (ReopensAmid rules is.entries deeds)
-            (amid_first rules is.entries deeds) (opened_stops tells story faults calls areas found rules birth store new_disk is)) led);
+        stops = subst (λ (s : State). OnTrue tells ((image : Areas) → IsImage (story disk) image → MayReopen birth_there rules s (unsure_in later) image)) state
+            (subst (λ (r : Rules). OnTrue tells ((image : Areas) → IsImage (story disk) image → MayReopen birth_there r (state_in later) (unsure_in later) image)) ruled
+            (subst (λ b. OnTrue tells ((image : Areas) → IsImage (story disk) image → MayReopen b (rules_in later) (state_in later) (unsure_in later) image)) born
+            (closes_to (birth_in store) all holds)));
+        amid = subst (λ (d : D). OnTrue tells (LeavesOnly (untold areas) (story d) (ReopensAmid birth_there rules is.entries deeds))) (sym same)
+            (amid tells story faults calls birth_there rules is.entries deeds (untold areas) [] deeds store later refl refl is.ruled
+            (is.state ∙ ap (state_of birth_there rules) (sym (append-nil is.entries))) sure
+            (told_leaves_weaker tells (untold areas) (story (disk_in store)) (ReopensTo rules (state_of birth_there rules is.entries)) (ReopensAmid birth_there rules is.entries deeds)
+            (amid_first birth_there rules is.entries deeds) (opened_stops tells story faults calls areas found rules birth store new_disk is)) led);
         counted = counted_by (faults (disk_in store)) (faults (disk_in later)) (faults disk) deeds
             (opened_unfailed tells story faults calls areas found rules birth store new_disk is) (ap faults same) counts;
         bounded = let here : calls disk ≡ calls (disk_in later) = ap calls same in omega (arith, here, calls_more, calls_first);
@@ -164,7 +167,7 @@ module _
           handed_back = refl;
           stands = subst (λ (u : Option Recorded). OnTrue tells ((image : Areas) → IsImage (story disk) image → MayStandFor (birth_in store) is.entries u image)) is.sure
               (closes (birth_in store) is.entries is.holds);
-          stops = subst (λ (d : D). OnTrue tells (LeavesOnly (untold areas) (story d) (ReopensTo rules (state_of rules is.entries)))) (sym same)
+          stops = subst (λ (d : D). OnTrue tells (LeavesOnly (untold areas) (story d) (ReopensTo rules (state_of (birth_in store) rules is.entries)))) (sym same)
               (opened_stops tells story faults calls areas found rules birth store new_disk is);
           unfailed = ap faults same ∙ opened_unfailed tells story faults calls areas found rules birth store new_disk is;
           bounded = subst (λ (d : D). calls d ≤ 20) (sym same) (opened_calls tells story faults calls areas found rules birth store new_disk is);

@@ -77,13 +77,13 @@ IsNext (deed ∷ deeds) kept = kept ≡ entry_of deed
 
 -- What a stop in a session leaves: areas that reopen to what is left of the state behind a front of its deeds, or to that with one entry
 -- more, which was in doubt then or was being recorded.
-pub record ReopensAmid (rules : Rules) (entries : List Recorded) (deeds : List Deed) (image : Areas) : Type 0 where
+pub record ReopensAmid (birth : ℕ) (rules : Rules) (entries : List Recorded) (deeds : List Deed) (image : Areas) : Type 0 where
   pub front : List Deed
   pub rest : List Deed
   pub split : deeds ≡ front ++ rest
   pub more : Option Recorded
   pub doubt : IfSome more (λ kept. IsInDoubt front kept ⊎ IsNext rest kept)
-  pub reopens : MayReopen rules (state_of rules (entries ++ done_of front)) more image
+  pub reopens : MayReopen birth rules (state_of birth rules (entries ++ done_of front)) more image
 
 -- ---- a session
 
@@ -98,13 +98,13 @@ module _ {D : Type 0} (tells : Bool) (story : D → Story) (faults calls : D →
     pub found : IsFound tells areas word settings.rules birth entries
     pub deeds : List Deed
     pub talks : Talks settings octets_limit old new readings deeds end
-    pub reasoned : AreReasoned settings.rules (state_of settings.rules entries) deeds
+    pub reasoned : AreReasoned birth settings.rules (state_of birth settings.rules entries) deeds
     pub stored : done_of deeds ≡ accepts_in (with_last talks.talk.kept talks.talk.last)
     pub unsure : Option Recorded
     pub doubt : IfSome unsure (IsInDoubt deeds)
     pub stands : OnTrue tells ((image : Areas) → IsImage (story disk) image → MayStandFor birth (entries ++ done_of deeds) unsure image)
-    pub stops : OnTrue tells ((image : Areas) → IsImage (story disk) image → MayReopen settings.rules (state_of settings.rules (entries ++ done_of deeds)) unsure image)
-    pub amid : OnTrue tells (LeavesOnly (untold areas) (story disk) (ReopensAmid settings.rules entries deeds))
+    pub stops : OnTrue tells ((image : Areas) → IsImage (story disk) image → MayReopen birth settings.rules (state_of birth settings.rules (entries ++ done_of deeds)) unsure image)
+    pub amid : OnTrue tells (LeavesOnly (untold areas) (story disk) (ReopensAmid birth settings.rules entries deeds))
     pub counted : CountsFaults 0 (faults disk) deeds
     pub bounded : calls disk ≤ 20 + 6 * length deeds
     pub failed : fault ≡ fault_by (is_some unsure) end

@@ -55,7 +55,7 @@ module _ {D : Type 0} (tells : Bool) (story : D → Story) (faults calls : D →
 -- A store that was opened, of this birth with these entries, each in its turn, is what the areas stood for; one that wasn't born was born with the
 -- house's word.
 pub record IsFound (tells : Bool) (areas : Areas) (word : Option ℕ) (rules : Rules) (birth : ℕ) (entries : List Recorded) : Type 0 where
-  pub in_turn : AreInTurn (start rules) entries
+  pub in_turn : AreInTurn birth (start rules) entries
   pub stood : OnTrue tells (StandsFor (stands areas) birth entries)
   pub born : OnTrue tells (stands areas ≡ unborn → IsToldWord word birth)
 

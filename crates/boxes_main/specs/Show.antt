@@ -53,11 +53,11 @@ module _ {D : Type 0} (tells : Bool) (story : D → Story) (faults calls : D →
     pub birth : ℕ
     pub entries : List Recorded
     pub found : IsFound tells areas word rules birth entries
-    pub prints : Prints (show_text (totals_of (state_of rules entries))) fault old new
+    pub prints : Prints (show_text (totals_of (state_of birth rules entries))) fault old new
     pub after : D
     pub handed_back : disk ≡ Some after
     pub stands : OnTrue tells ((image : Areas) → IsImage (story after) image → MayStandFor birth entries None image)
-    pub stops : OnTrue tells (LeavesOnly (untold areas) (story after) (ReopensTo rules (state_of rules entries)))
+    pub stops : OnTrue tells (LeavesOnly (untold areas) (story after) (ReopensTo rules (state_of birth rules entries)))
     pub unfailed : faults after ≡ 0
     pub bounded : calls after ≤ 20
 

@@ -13,10 +13,11 @@ use Rattle.gate_entries.specs.declared.recorded.Recorded.{Recorded}
 use Rattle.gate_entries.specs.declared.recorded.Recorded.TheVariants as entry
 use Rattle.gate_entries.specs.declared.passing.Passing.{Passing}
 use Rattle.gate_entries.specs.declared.passing.Passing.TheVariants.{Up, Down, Took, Returned, TookJob, ReturnedJob, TookArrival, ReturnedArrival}
-use Rattle.sms_record.specs.declared.kind.Kind.{Kind}
 use Rattle.gate_model.specs.Numbers.{Rise, is_held, value_under, without, with_change, numbered_from}
-use Rattle.gate_model.specs.State.{State, Awaited, IsInOrder, empty}
-use Rattle.gate_model.specs.Fold.{Entry, recorded, passing, keeps, passes, does, after, accepts, answers, hears, unleased, is_last, without_oldest}
+use Rattle.dlr_table.specs.declared.awaited.Awaited.{Awaited}
+use Rattle.gate_entries.specs.declared.reported.Reported.{Reported}
+use Rattle.gate_model.specs.State.{State, IsInOrder, empty}
+use Rattle.gate_model.specs.Fold.{Entry, recorded, passing, passes, does, after, accepts, answers, moves, hears, closes, unleased, is_last}
 use Rattle.gate_model.specs.Lawful.{suits, may_end, has_expired}
 use Rattle.gate_model.specs.Fates.{AreLawful, IsSoundIn, AreSound, Fate, taken, given_up, stored, fate, ended_by, is_end_of, IsCounted, HaveFates}
 use Rattle.gate_model.proofs.NumberLemmas.{by_number, length-without, length-numbered_from}
@@ -27,7 +28,7 @@ use Rattle.gate_model.proofs.WholeLemmas.{some_value}
 
 module _ {T : Type 0} where
   -- the values under other numbers stay
-  value_under-without_other : (number other : ℕ) (pairs : List (ℕ × T)) → number ≢ other → value_under other (without number pairs) ≡ value_under other pairs
+  pub value_under-without_other : (number other : ℕ) (pairs : List (ℕ × T)) → number ≢ other → value_under other (without number pairs) ≡ value_under other pairs
   value_under-without_other number other [] ne = refl
   value_under-without_other number other (pair ∷ pairs) ne =
       let rest = value_under-without_other number other pairs ne in
@@ -36,7 +37,7 @@ module _ {T : Type 0} where
       (λ e. rw (ne_eqb pair.0 other (λ f. ne (sym e ∙ f))) rest)
       (λ differ. ap (cond (pair.0 == other) (Some pair.1)) rest)
 
-  value_under-without : (number : ℕ) (pairs : List (ℕ × T)) → value_under number (without number pairs) ≡ None
+  pub value_under-without : (number : ℕ) (pairs : List (ℕ × T)) → value_under number (without number pairs) ≡ None
   value_under-without number [] = refl
   value_under-without number (pair ∷ pairs) =
       let rest = value_under-without number pairs in
@@ -72,7 +73,7 @@ module _ {T : Type 0} where
       (λ b. is_some (cond b (Some value) (value_under number (numbered_from (first + 1) values))) ≡ true) first number
       (λ e. refl) (λ ne. held-numbered_from number (first + 1) values (omega arith) (omega arith))
 
-  below-numbered_from : (number first : ℕ) (values : List T) → number < first → is_held number (numbered_from first values) ≡ false
+  pub below-numbered_from : (number first : ℕ) (values : List T) → number < first → is_held number (numbered_from first values) ≡ false
   below-numbered_from number first [] low = refl
   below-numbered_from number first (value ∷ values) low =
       by_number
@@ -147,16 +148,16 @@ moves-ends message number old new ended last held =
     true_false : true ≡ false → ⊥
     true_false e = cc
 
-held-hears : (message : ℕ) (kind : Kind) (smsc foreign : List ℕ) (found : Option Awaited) (state : State) → Moves message false state (hears kind smsc foreign found state)
-held-hears message kind smsc foreign None state = moves-same message state _ refl refl
-held-hears message kind smsc foreign (Some awaited) state =
-    elim (is_last kind) as (λ b. Moves message false state (cond b (record state { awaited = without_oldest smsc foreign state.awaited }) state)) [
+held-hears : (message : ℕ) (reported : Reported) (found : Option Awaited) (state : State) → Moves message false state (hears reported found state)
+held-hears message reported None state = moves-same message state _ refl refl
+held-hears message reported (Some awaited) state =
+    elim (is_last reported.kind) as (λ b. Moves message false state (cond b (closes reported.smsc reported.foreign state) state)) [
       | true ↦ moves-same message state _ refl refl
       | false ↦ moves-same message state _ refl refl
     ]
 
 -- a message that may end waits
-held-may_end : (state : State) (message time : ℕ) (cause : Cause) → may_end state message time cause ≡ true → is_held message state.waiting ≡ true
+pub held-may_end : (state : State) (message time : ℕ) (cause : Cause) → may_end state message time cause ≡ true → is_held message state.waiting ≡ true
 held-may_end state message time (Centre code) may = may
 held-may_end state message time Expired may = by_value (value_under message state.waiting) may
   where
@@ -164,18 +165,18 @@ held-may_end state message time Expired may = by_value (value_under message stat
     by_value None may = may
     by_value (Some waiting) may = refl
 
-moves-keeps : (message : ℕ) (state : State) (kept : Recorded) → suits state kept ≡ true → Moves message (is_end_of message (recorded kept)) state (keeps kept state)
-moves-keeps message state (entry.Accept accept) suited = moves-accepts message state accept.parts
-moves-keeps message state (entry.Acked acked) suited = moves-ends message acked.message state _ refl refl (and_parts _ _ suited).0
-moves-keeps message state (entry.Rejected rejected) suited =
+moves-moves : (message : ℕ) (state : State) (kept : Recorded) → suits state kept ≡ true → Moves message (is_end_of message (recorded kept)) state (moves kept state)
+moves-moves message state (entry.Accept accept) suited = moves-accepts message state accept.parts
+moves-moves message state (entry.Acked acked) suited = moves-ends message acked.message state _ refl refl (and_parts _ _ suited).0
+moves-moves message state (entry.Rejected rejected) suited =
     moves-ends message rejected.message state _ refl refl (held-may_end state rejected.message rejected.time rejected.cause (and_parts _ _ suited).0)
-moves-keeps message state (entry.Reported reported) suited = held-hears message reported.kind reported.smsc reported.foreign _ state
-moves-keeps message state (entry.Arrived arrived) suited = moves-same message state _ refl refl
-moves-keeps message state (entry.Answered answered) suited =
+moves-moves message state (entry.Reported reported) suited = held-hears message reported _ state
+moves-moves message state (entry.Arrived arrived) suited = moves-same message state _ refl refl
+moves-moves message state (entry.Answered answered) suited =
     let m = moves-accepts message (answers answered.arrivals state) answered.parts in
     record { was = m.was; gone = m.gone; stays = m.stays; absent = m.absent; grows = m.grows; given = m.given }
-moves-keeps message state (entry.Called called) suited = moves-same message state _ refl refl
-moves-keeps message state (entry.CallDropped dropped) suited = moves-same message state _ refl refl
+moves-moves message state (entry.Called called) suited = moves-same message state _ refl refl
+moves-moves message state (entry.CallDropped dropped) suited = moves-same message state _ refl refl
 
 moves-passes : (message : ℕ) (state : State) (brief : Passing) → Moves message false state (passes brief state)
 moves-passes message state (Up link) = moves-same message state _ refl refl
@@ -187,11 +188,11 @@ moves-passes message state (ReturnedJob job) = moves-same message state _ refl r
 moves-passes message state (TookArrival arrival) = moves-same message state _ refl refl
 moves-passes message state (ReturnedArrival arrival) = moves-same message state _ refl refl
 
-moves-does : (message : ℕ) (state : State) (one : Entry) → IsSoundIn state one → Moves message (is_end_of message one) state (does state one)
-moves-does message state (recorded kept) sound =
-    let m = moves-keeps message state kept sound.1 in
+moves-does : (birth message : ℕ) (state : State) (one : Entry) → IsSoundIn state one → Moves message (is_end_of message one) state (does birth state one)
+moves-does birth message state (recorded kept) sound =
+    let m = moves-moves message state kept sound.1 in
     record { was = m.was; gone = m.gone; stays = m.stays; absent = m.absent; grows = m.grows; given = m.given }
-moves-does message state (passing brief) sound = moves-passes message state brief
+moves-does birth message state (passing brief) sound = moves-passes message state brief
 
 -- ---- what entries do to one message
 
@@ -234,66 +235,66 @@ either false = inr refl
 contrary : (b : Bool) → b ≡ true → b ≡ false → ⊥
 contrary b ended lives = let e : true ≡ false = sym ended ∙ lives in cc
 
-module _ (message : ℕ) where
+module _ (birth message : ℕ) where
   -- a message that is gone doesn't come back, and isn't ended again
-  stays_gone : (state : State) (entries : List Entry) → AreSound state entries → message ≤ state.last_message → is_held message state.waiting ≡ false
-      → (is_held message (after state entries).waiting ≡ false) × (count_by (is_end_of message) entries ≡ 0)
+  stays_gone : (state : State) (entries : List Entry) → AreSound birth state entries → message ≤ state.last_message → is_held message state.waiting ≡ false
+      → (is_held message (after birth state entries).waiting ≡ false) × (count_by (is_end_of message) entries ≡ 0)
   stays_gone state [] sound low none = (none, refl)
   stays_gone state (one ∷ entries) sound low none =
-      let m = moves-does message state one sound.0 in
+      let m = moves-does birth message state one sound.0 in
       let grows = m.grows in
-      let rest = stays_gone (does state one) entries sound.1 (omega (arith, grows)) (m.absent low none) in (
+      let rest = stays_gone (does birth state one) entries sound.1 (omega (arith, grows)) (m.absent low none) in (
         rest.0,
         ⊎_elim (λ ended. absurd (contrary (is_held message state.waiting) (m.was ended) none))
             (λ lives. let c = count-cons message one entries false lives in let z = rest.1 in omega (arith, c, z)) (either (is_end_of message one)),
       )
 
   -- a message that an entry ends is gone behind it
-  gone_behind : (state : State) (one : Entry) (entries : List Entry) → IsInOrder state → AreSound state (one ∷ entries) → is_end_of message one ≡ true
-      → (is_held message (after state (one ∷ entries)).waiting ≡ false) × (count_by (is_end_of message) entries ≡ 0)
+  gone_behind : (state : State) (one : Entry) (entries : List Entry) → IsInOrder state → AreSound birth state (one ∷ entries) → is_end_of message one ≡ true
+      → (is_held message (after birth state (one ∷ entries)).waiting ≡ false) × (count_by (is_end_of message) entries ≡ 0)
   gone_behind state one entries order sound ended =
-      let m = moves-does message state one sound.0 in
+      let m = moves-does birth message state one sound.0 in
       let grows = m.grows in
       let low = held_below 1 (state.last_message + 1) message state.waiting order.waiting (m.was ended) in
-      stays_gone (does state one) entries sound.1 (omega (arith, grows, low)) (m.gone ended)
+      stays_gone (does birth state one) entries sound.1 (omega (arith, grows, low)) (m.gone ended)
 
-  ends_once : (state : State) (entries : List Entry) → IsInOrder state → AreSound state entries → count_by (is_end_of message) entries ≤ 1
+  ends_once : (state : State) (entries : List Entry) → IsInOrder state → AreSound birth state entries → count_by (is_end_of message) entries ≤ 1
   ends_once state [] order sound = omega arith
   ends_once state (one ∷ entries) order sound =
-      let rest = ends_once (does state one) entries (IsInOrder-does state one order) sound.1 in
+      let rest = ends_once (does birth state one) entries (IsInOrder-does birth state one order) sound.1 in
       ⊎_elim
       (λ ended. let c = count-cons message one entries true ended in let z = (gone_behind state one entries order sound ended).1 in omega (arith, c, z))
       (λ lives. let c = count-cons message one entries false lives in omega (arith, c, rest)) (either (is_end_of message one))
 
   -- one that waits is stored exactly where it still waits
-  stored_held : (state : State) (entries : List Entry) → IsInOrder state → AreSound state entries → is_held message state.waiting ≡ true
-      → (fate entries message ≡ stored) ↔ (is_held message (after state entries).waiting ≡ true)
+  stored_held : (state : State) (entries : List Entry) → IsInOrder state → AreSound birth state entries → is_held message state.waiting ≡ true
+      → (fate entries message ≡ stored) ↔ (is_held message (after birth state entries).waiting ≡ true)
   stored_held state [] order sound held = (λ f. held, λ h. refl)
   stored_held state (one ∷ entries) order sound held =
-      let m = moves-does message state one sound.0 in
+      let m = moves-does birth message state one sound.0 in
       ⊎_elim
       (λ ended. (
         λ f. absurd (fate-ended message one entries ended f),
-        λ h. absurd (contrary (is_held message (after state (one ∷ entries)).waiting) h (gone_behind state one entries order sound ended).0),
+        λ h. absurd (contrary (is_held message (after birth state (one ∷ entries)).waiting) h (gone_behind state one entries order sound ended).0),
       ))
       (λ lives.
-      let rest = stored_held (does state one) entries (IsInOrder-does state one order) sound.1 (m.stays lives held) in
+      let rest = stored_held (does birth state one) entries (IsInOrder-does birth state one order) sound.1 (m.stays lives held) in
       let same = fate-other message one entries lives in (λ f. rest.0 (sym same ∙ f), λ h. same ∙ rest.1 h))
       (either (is_end_of message one))
 
   -- so is one that the entries accept
-  stored_given : (state : State) (entries : List Entry) → IsInOrder state → AreSound state entries → state.last_message < message → message ≤ (after state entries).last_message
-      → (fate entries message ≡ stored) ↔ (is_held message (after state entries).waiting ≡ true)
+  stored_given : (state : State) (entries : List Entry) → IsInOrder state → AreSound birth state entries → state.last_message < message → message ≤ (after birth state entries).last_message
+      → (fate entries message ≡ stored) ↔ (is_held message (after birth state entries).waiting ≡ true)
   stored_given state [] order sound low high = absurd (omega arith)
   stored_given state (one ∷ entries) order sound low high =
-      let m = moves-does message state one sound.0 in
-      let ordered = IsInOrder-does state one order in
+      let m = moves-does birth message state one sound.0 in
+      let ordered = IsInOrder-does birth state one order in
       let lives : is_end_of message one ≡ false =
       ⊎_elim (λ ended. absurd (let below = held_below 1 (state.last_message + 1) message state.waiting order.waiting (m.was ended) in omega (arith, below))) (λ lives. lives) (either (is_end_of message one)) in
       let same = fate-other message one entries lives in
-      let rest : (fate entries message ≡ stored) ↔ (is_held message (after (does state one) entries).waiting ≡ true) =
-      ⊎_elim (λ given. stored_held (does state one) entries ordered sound.1 (m.given low given))
-      (λ later. stored_given (does state one) entries ordered sound.1 later high) (le_or_lt message (does state one).last_message) in
+      let rest : (fate entries message ≡ stored) ↔ (is_held message (after birth (does birth state one) entries).waiting ≡ true) =
+      ⊎_elim (λ given. stored_held (does birth state one) entries ordered sound.1 (m.given low given))
+      (λ later. stored_given (does birth state one) entries ordered sound.1 later high) (le_or_lt message (does birth state one).last_message) in
       (λ f. rest.0 (sym same ∙ f), λ h. same ∙ rest.1 h)
     where
       le_or_lt : (a b : ℕ) → (a ≤ b) ⊎ (b < a)
@@ -315,24 +316,24 @@ module _ (state : State) (counted : IsCounted state) where
       let same = length-map parts unleased in
       omega (arith, many, numbered, same, counted)
 
-  pub counted-keeps : (kept : Recorded) → IsInOrder state → suits state kept ≡ true → IsCounted (keeps kept state)
-  counted-keeps (entry.Accept accept) order suited = counted-accepts accept.parts
-  counted-keeps (entry.Acked acked) order suited = let less = counted-ends acked.message order (and_parts _ _ suited).0 in omega (arith, less)
-  counted-keeps (entry.Rejected rejected) order suited =
+  counted-moves : (kept : Recorded) → IsInOrder state → suits state kept ≡ true → IsCounted (moves kept state)
+  counted-moves (entry.Accept accept) order suited = counted-accepts accept.parts
+  counted-moves (entry.Acked acked) order suited = let less = counted-ends acked.message order (and_parts _ _ suited).0 in omega (arith, less)
+  counted-moves (entry.Rejected rejected) order suited =
       let less = counted-ends rejected.message order (held-may_end state rejected.message rejected.time rejected.cause (and_parts _ _ suited).0) in omega (arith, less)
-  counted-keeps (entry.Reported reported) order suited = counted-hears reported.kind reported.smsc reported.foreign _
+  counted-moves (entry.Reported reported) order suited = counted-hears reported _
     where
-      counted-hears : (kind : Kind) (smsc foreign : List ℕ) (found : Option Awaited) → IsCounted (hears kind smsc foreign found state)
-      counted-hears kind smsc foreign None = counted
-      counted-hears kind smsc foreign (Some awaited) =
-          elim (is_last kind) as (λ b. IsCounted (cond b (record state { awaited = without_oldest smsc foreign state.awaited }) state)) [
+      counted-hears : (reported : Reported) (found : Option Awaited) → IsCounted (hears reported found state)
+      counted-hears reported None = counted
+      counted-hears reported (Some awaited) =
+          elim (is_last reported.kind) as (λ b. IsCounted (cond b (closes reported.smsc reported.foreign state) state)) [
             | true ↦ counted
             | false ↦ counted
           ]
-  counted-keeps (entry.Arrived arrived) order suited = counted
-  counted-keeps (entry.Answered answered) order suited = counted-accepts answered.parts
-  counted-keeps (entry.Called called) order suited = counted
-  counted-keeps (entry.CallDropped dropped) order suited = counted
+  counted-moves (entry.Arrived arrived) order suited = counted
+  counted-moves (entry.Answered answered) order suited = counted-accepts answered.parts
+  counted-moves (entry.Called called) order suited = counted
+  counted-moves (entry.CallDropped dropped) order suited = counted
 
   pub counted-passes : (brief : Passing) → IsCounted (passes brief state)
   counted-passes (Up link) = counted
@@ -344,34 +345,34 @@ module _ (state : State) (counted : IsCounted state) where
   counted-passes (TookArrival arrival) = counted
   counted-passes (ReturnedArrival arrival) = counted
 
-pub counted-does : (state : State) (one : Entry) → IsInOrder state → IsSoundIn state one → IsCounted state → IsCounted (does state one)
-counted-does state (recorded kept) order sound counted = counted-keeps state counted kept order sound.1
-counted-does state (passing brief) order sound counted = counted-passes state counted brief
+pub counted-does : (birth : ℕ) (state : State) (one : Entry) → IsInOrder state → IsSoundIn state one → IsCounted state → IsCounted (does birth state one)
+counted-does birth state (recorded kept) order sound counted = counted-moves state counted kept order sound.1
+counted-does birth state (passing brief) order sound counted = counted-passes state counted brief
 
-pub counted-after : (state : State) (entries : List Entry) → IsInOrder state → AreSound state entries → IsCounted state → IsCounted (after state entries)
-counted-after state [] order sound counted = counted
-counted-after state (one ∷ entries) order sound counted =
-    counted-after (does state one) entries (IsInOrder-does state one order) sound.1 (counted-does state one order sound.0 counted)
+pub counted-after : (birth : ℕ) (state : State) (entries : List Entry) → IsInOrder state → AreSound birth state entries → IsCounted state → IsCounted (after birth state entries)
+counted-after birth state [] order sound counted = counted
+counted-after birth state (one ∷ entries) order sound counted =
+    counted-after birth (does birth state one) entries (IsInOrder-does birth state one order) sound.1 (counted-does birth state one order sound.0 counted)
 
 -- the law of fates, of sound entries
-pub sound_have_fates : (state : State) (entries : List Entry) → IsInOrder state → IsCounted state → AreSound state entries → HaveFates state entries
-sound_have_fates state entries order counted sound = record {
-  once = λ message. ends_once message state entries order sound;
+pub sound_have_fates : (birth : ℕ) (state : State) (entries : List Entry) → IsInOrder state → IsCounted state → AreSound birth state entries → HaveFates birth state entries
+sound_have_fates birth state entries order counted sound = record {
+  once = λ message. ends_once birth message state entries order sound;
   stored = λ message known.
-      ⊎_elim (λ held. stored_held message state entries order sound held) (λ given. stored_given message state entries order sound given.0 given.1) known;
-  counted = counted-after state entries order sound counted;
+      ⊎_elim (λ held. stored_held birth message state entries order sound held) (λ given. stored_given birth message state entries order sound given.0 given.1) known;
+  counted = counted-after birth state entries order sound counted;
 }
 
 -- lawful entries are sound
-pub are_sound_where_lawful : (rules : Rules) (state : State) (entries : List Entry) → AreLawful rules state entries → AreSound state entries
-are_sound_where_lawful rules state [] lawful = tt
-are_sound_where_lawful rules state (recorded kept ∷ entries) lawful = (lawful.0.0, are_sound_where_lawful rules (does state (recorded kept)) entries lawful.1)
-are_sound_where_lawful rules state (passing brief ∷ entries) lawful = (tt, are_sound_where_lawful rules (does state (passing brief)) entries lawful.1)
+pub are_sound_where_lawful : (birth : ℕ) (rules : Rules) (state : State) (entries : List Entry) → AreLawful birth rules state entries → AreSound birth state entries
+are_sound_where_lawful birth rules state [] lawful = tt
+are_sound_where_lawful birth rules state (recorded kept ∷ entries) lawful = (lawful.0.0, are_sound_where_lawful birth rules (does birth state (recorded kept)) entries lawful.1)
+are_sound_where_lawful birth rules state (passing brief ∷ entries) lawful = (tt, are_sound_where_lawful birth rules (does birth state (passing brief)) entries lawful.1)
 
 -- so lawful entries have fates
-pub have_fates : (rules : Rules) (state : State) (entries : List Entry) → IsInOrder state → IsCounted state → AreLawful rules state entries → HaveFates state entries
-have_fates rules state entries order counted lawful = sound_have_fates state entries order counted (are_sound_where_lawful rules state entries lawful)
+pub have_fates : (birth : ℕ) (rules : Rules) (state : State) (entries : List Entry) → IsInOrder state → IsCounted state → AreLawful birth rules state entries → HaveFates birth state entries
+have_fates birth rules state entries order counted lawful = sound_have_fates birth state entries order counted (are_sound_where_lawful birth rules state entries lawful)
 
 -- and so have those since a store's birth
-pub fates_since_birth : (links : ℕ) (entries : List Entry) → AreSound (empty links) entries → HaveFates (empty links) entries
-fates_since_birth links entries sound = sound_have_fates (empty links) entries (IsInOrder-empty links) refl sound
+pub fates_since_birth : (birth links : ℕ) (entries : List Entry) → AreSound birth (empty links) entries → HaveFates birth (empty links) entries
+fates_since_birth birth links entries sound = sound_have_fates birth (empty links) entries (IsInOrder-empty links) refl sound

@@ -1,3 +1,5 @@
+pub mod AwaitedLemmas
+pub mod DueLaws
 pub mod FatesLaws
 pub mod FlightLemmas
 pub mod LoadingLemmas
@@ -5,6 +7,7 @@ pub mod NextLemmas
 pub mod NumberLemmas
 pub mod OrderLemmas
 pub mod PutLemmas
+pub mod RecordingLemmas
 pub mod RefusalLemmas
 pub mod SettlingLaws
 pub mod SoundLaws

@@ -2,15 +2,16 @@
 use Rattle.std.proofs.Common.{subst, ℕ, ◌+◌, true, false, cond, List, [], ◌∷◌, ◌++◌, length, map, Option, Some, None, arith}
 use Rattle.std.proofs.lemmas.List.{length-map}
 use Rattle.std.specs.Prelude.{fold}
-use Rattle.sms_record.specs.declared.kind.Kind.{Kind}
 use Rattle.sms_record.specs.declared.sms.Sms.{Sms}
 use Rattle.gate_entries.specs.declared.recorded.Recorded.{Recorded}
 use Rattle.gate_entries.specs.declared.recorded.Recorded.TheVariants as entry
 use Rattle.gate_entries.specs.declared.passing.Passing.{Passing}
 use Rattle.gate_entries.specs.declared.passing.Passing.TheVariants.{Up, Down, Took, Returned, TookJob, ReturnedJob, TookArrival, ReturnedArrival}
 use Rattle.gate_model.specs.Numbers.{without, numbered_from, Rise}
-use Rattle.gate_model.specs.State.{State, Awaited, IsInOrder, empty}
-use Rattle.gate_model.specs.Fold.{Entry, recorded, passing, keeps, passes, does, after, accepts, hears, unleased, is_last, without_oldest}
+use Rattle.dlr_table.specs.declared.awaited.Awaited.{Awaited}
+use Rattle.gate_entries.specs.declared.reported.Reported.{Reported}
+use Rattle.gate_model.specs.State.{State, IsInOrder, empty}
+use Rattle.gate_model.specs.Fold.{Entry, recorded, passing, keeps, moves, calls, new_job, if_any, url_in, passes, does, after, accepts, hears, closes, unleased, is_last}
 use Rattle.gate_model.proofs.NumberLemmas.{Rise-without, Rise-with_change, Rise-numbered_from, Rise-append}
 
 module _ {T : Type 0} where
@@ -37,23 +38,35 @@ IsInOrder-accepts parts state h = record {
   jobs = h.jobs;
 }
 
-IsInOrder-hears : (kind : Kind) (smsc foreign : List ℕ) (found : Option Awaited) (state : State) → IsInOrder state → IsInOrder (hears kind smsc foreign found state)
-IsInOrder-hears kind smsc foreign None state h = record { waiting = h.waiting; arrivals = h.arrivals; jobs = h.jobs }
-IsInOrder-hears kind smsc foreign (Some awaited) state h =
-    elim (is_last kind) as (λ b. IsInOrder (cond b (record state { awaited = without_oldest smsc foreign state.awaited }) state)) [
+IsInOrder-hears : (reported : Reported) (found : Option Awaited) (state : State) → IsInOrder state → IsInOrder (hears reported found state)
+IsInOrder-hears reported None state h = record { waiting = h.waiting; arrivals = h.arrivals; jobs = h.jobs }
+IsInOrder-hears reported (Some awaited) state h =
+    elim (is_last reported.kind) as (λ b. IsInOrder (cond b (closes reported.smsc reported.foreign state) state)) [
       | true ↦ record { waiting = h.waiting; arrivals = h.arrivals; jobs = h.jobs }
       | false ↦ h
     ]
 
-pub IsInOrder-keeps : (state : State) (kept : Recorded) → IsInOrder state → IsInOrder (keeps kept state)
-IsInOrder-keeps state (entry.Accept accept) h = IsInOrder-accepts accept.parts state h
-IsInOrder-keeps state (entry.Acked acked) h = record { waiting = Rise-without _ _ acked.message state.waiting h.waiting; arrivals = h.arrivals; jobs = h.jobs }
-IsInOrder-keeps state (entry.Rejected rejected) h = record { waiting = Rise-without _ _ rejected.message state.waiting h.waiting; arrivals = h.arrivals; jobs = h.jobs }
-IsInOrder-keeps state (entry.Reported reported) h = IsInOrder-hears reported.kind reported.smsc reported.foreign _ state h
-IsInOrder-keeps state (entry.Arrived arrived) h = record { waiting = h.waiting; arrivals = Rise-one_more state.last_arrival state.arrivals _ h.arrivals; jobs = h.jobs }
-IsInOrder-keeps state (entry.Answered answered) h = IsInOrder-accepts answered.parts _ (record { waiting = h.waiting; arrivals = Rise-fold_without _ _ state.arrivals answered.arrivals h.arrivals; jobs = h.jobs })
-IsInOrder-keeps state (entry.Called called) h = record { waiting = h.waiting; arrivals = h.arrivals; jobs = Rise-without _ _ called.job state.jobs h.jobs }
-IsInOrder-keeps state (entry.CallDropped dropped) h = record { waiting = h.waiting; arrivals = h.arrivals; jobs = Rise-without _ _ dropped.job state.jobs h.jobs }
+IsInOrder-moves : (state : State) (kept : Recorded) → IsInOrder state → IsInOrder (moves kept state)
+IsInOrder-moves state (entry.Accept accept) h = IsInOrder-accepts accept.parts state h
+IsInOrder-moves state (entry.Acked acked) h = record { waiting = Rise-without _ _ acked.message state.waiting h.waiting; arrivals = h.arrivals; jobs = h.jobs }
+IsInOrder-moves state (entry.Rejected rejected) h = record { waiting = Rise-without _ _ rejected.message state.waiting h.waiting; arrivals = h.arrivals; jobs = h.jobs }
+IsInOrder-moves state (entry.Reported reported) h = IsInOrder-hears reported _ state h
+IsInOrder-moves state (entry.Arrived arrived) h = record { waiting = h.waiting; arrivals = Rise-one_more state.last_arrival state.arrivals _ h.arrivals; jobs = h.jobs }
+IsInOrder-moves state (entry.Answered answered) h = IsInOrder-accepts answered.parts _ (record { waiting = h.waiting; arrivals = Rise-fold_without _ _ state.arrivals answered.arrivals h.arrivals; jobs = h.jobs })
+IsInOrder-moves state (entry.Called called) h = record { waiting = h.waiting; arrivals = h.arrivals; jobs = Rise-without _ _ called.job state.jobs h.jobs }
+IsInOrder-moves state (entry.CallDropped dropped) h = record { waiting = h.waiting; arrivals = h.arrivals; jobs = Rise-without _ _ dropped.job state.jobs h.jobs }
+
+pub IsInOrder-calls : (url : Option (List ℕ)) (state : State) → IsInOrder state → IsInOrder (calls url state)
+IsInOrder-calls url state h = record {
+  waiting = h.waiting;
+  arrivals = h.arrivals;
+  jobs =
+      let rise = Rise-more state.last_job state.jobs (map new_job (if_any url)) h.jobs in
+      subst (λ n. Rise 1 (state.last_job + n + 1) (state.jobs ++ numbered_from (state.last_job + 1) (map new_job (if_any url)))) (length-map (if_any url) new_job) rise;
+}
+
+pub IsInOrder-keeps : (birth : ℕ) (state : State) (kept : Recorded) → IsInOrder state → IsInOrder (keeps birth kept state)
+IsInOrder-keeps birth state kept h = IsInOrder-calls (url_in birth state kept) (moves kept state) (IsInOrder-moves state kept h)
 
 pub IsInOrder-passes : (state : State) (brief : Passing) → IsInOrder state → IsInOrder (passes brief state)
 IsInOrder-passes state (Up link) h = record { waiting = h.waiting; arrivals = h.arrivals; jobs = h.jobs }
@@ -65,13 +78,13 @@ IsInOrder-passes state (ReturnedJob job) h = record { waiting = h.waiting; arriv
 IsInOrder-passes state (TookArrival arrival) h = record { waiting = h.waiting; arrivals = Rise-with_change _ _ arrival _ state.arrivals h.arrivals; jobs = h.jobs }
 IsInOrder-passes state (ReturnedArrival arrival) h = record { waiting = h.waiting; arrivals = Rise-with_change _ _ arrival _ state.arrivals h.arrivals; jobs = h.jobs }
 
-pub IsInOrder-does : (state : State) (one : Entry) → IsInOrder state → IsInOrder (does state one)
-IsInOrder-does state (recorded kept) h = let k = IsInOrder-keeps state kept h in record { waiting = k.waiting; arrivals = k.arrivals; jobs = k.jobs }
-IsInOrder-does state (passing brief) h = IsInOrder-passes state brief h
+pub IsInOrder-does : (birth : ℕ) (state : State) (one : Entry) → IsInOrder state → IsInOrder (does birth state one)
+IsInOrder-does birth state (recorded kept) h = let k = IsInOrder-keeps birth state kept h in record { waiting = k.waiting; arrivals = k.arrivals; jobs = k.jobs }
+IsInOrder-does birth state (passing brief) h = IsInOrder-passes state brief h
 
-pub IsInOrder-after : (state : State) (entries : List Entry) → IsInOrder state → IsInOrder (after state entries)
-IsInOrder-after state [] h = h
-IsInOrder-after state (one ∷ entries) h = IsInOrder-after (does state one) entries (IsInOrder-does state one h)
+pub IsInOrder-after : (birth : ℕ) (state : State) (entries : List Entry) → IsInOrder state → IsInOrder (after birth state entries)
+IsInOrder-after birth state [] h = h
+IsInOrder-after birth state (one ∷ entries) h = IsInOrder-after birth (does birth state one) entries (IsInOrder-does birth state one h)
 
 pub IsInOrder-empty : (links : ℕ) → IsInOrder (empty links)
 IsInOrder-empty links = record { waiting = tt; arrivals = tt; jobs = tt }

@@ -1,6 +1,7 @@
 -- What comes next may be taken.
-use Rattle.std.proofs.Common.{◌≡◌, ◌≢◌, refl, sym, ap, ◌∙◌, subst, ℕ, ◌+◌, ◌<◌, ◌^◌, zero, suc, Bool, true, false, cond, List, [], ◌∷◌, All, Option, Some, None, arith, leb-true, ltb-true, eqb-true, eq-eqb, ne_eqb}
-use Rattle.std.specs.Prelude.{◌&&◌, find, option_map, IsSome, IsSomeAnd, is_none, is_some, slice_get}
+use Rattle.std.proofs.Common.{◌≡◌, ◌≢◌, refl, sym, ap, ◌∙◌, subst, ℕ, ◌+◌, ◌<◌, ◌≤◌, ◌^◌, zero, suc, Bool, true, false, not, cond, List, [], ◌∷◌, All, Option, Some, None, arith, leb-true, ltb-true, eqb-true, eq-eqb, ne_eqb}
+use Rattle.std.specs.Prelude.{◌&&◌, nat_le, find, filter, option_map, IsSome, IsSomeAnd, is_none, is_some, slice_get}
+use Rattle.std.specs.List.{list_all}
 use Rattle.std.specs.Option.{option_and_then, option_map_or}
 use Rattle.std.proofs.lemmas.Bool.{and_parts}
 use Rattle.std.proofs.lemmas.List.Elements.{All-head, All-tail}
@@ -11,17 +12,18 @@ use Rattle.gate_entries.specs.declared.recorded.Recorded.{Recorded}
 use Rattle.gate_entries.specs.declared.recorded.Recorded.TheVariants as entry
 use Rattle.gate_entries.specs.Entry.{IsEntry, IsText}
 use Rattle.gate_entries.proofs.Sizes.{entry_bound}
-use Rattle.gate_entries.specs.declared.passing.Passing.TheVariants.{Took, Returned}
+use Rattle.gate_entries.specs.declared.passing.Passing.TheVariants.{Took, Returned, TookJob}
+use Rattle.gate_model.specs.declared.job.Job.{Job}
 use Rattle.gate_model.specs.declared.waiting.Waiting.{Waiting}
 use Rattle.gate_model.specs.Fold.{recorded, sms_of}
-use Rattle.gate_model.specs.Gate.{IsWhole, HaveIds, id_of, is_leased}
+use Rattle.gate_model.specs.Gate.{IsWhole, HaveIds, id_of, url_of, is_leased}
 use Rattle.gate_model.specs.Lawful.{IsLawful, MayPass, MayTake, is_expired, is_time}
 use Rattle.gate_model.specs.Numbers.{Rise, is_held, value_under}
-use Rattle.gate_model.specs.Routing.{next, may_take, link_for}
+use Rattle.gate_model.specs.Routing.{next, next_job, free_jobs, may_take, link_for}
 use Rattle.gate_model.specs.State.{State, IsInOrder, is_link}
 use Rattle.gate_model.proofs.FatesLaws.{held_below}
 use Rattle.gate_model.proofs.NextLemmas.{first_pair}
-use Rattle.gate_model.proofs.NumberLemmas.{value_under-before}
+use Rattle.gate_model.proofs.NumberLemmas.{by_number, value_under-before, Rise-wider}
 
 module _ {T : Type 0} (test : T → Bool) where
   -- The value under this number passes.
@@ -114,3 +116,73 @@ leased_may_return rules state message is = by_value (value_under message state.w
     by_value : (o : Option Waiting) → is_some (option_and_then (λ w. w.lease) o) ≡ true → IsSomeAnd o (λ w. w.lease ≢ None)
     by_value None is = absurd cc
     by_value (Some w) is = λ none. let t : false ≡ true = sym (ap is_some none) ∙ is in cc
+
+-- ---- jobs
+
+module _ {T : Type 0} (test : ℕ × T → Bool) where
+  -- numbers that rise still rise where some are left out
+  Rise-filter : (from below : ℕ) (pairs : List (ℕ × T)) → Rise from below pairs → Rise from below (filter test pairs)
+  Rise-filter from below [] rise = tt
+  Rise-filter from below (pair ∷ pairs) rise =
+      let rest = Rise-filter (pair.0 + 1) below pairs rise.2 in
+      elim (test pair) as (λ b. Rise from below (cond b (pair ∷ filter test pairs) (filter test pairs))) [
+        | true ↦ (rise.0, rise.1, rest)
+        | false ↦ Rise-wider (pair.0 + 1) below from below (filter test pairs) (omega arith) (omega arith) rest
+      ]
+
+  under_on : (from below number : ℕ) (value : T) (pair : ℕ × T) (pairs : List (ℕ × T)) (b : Bool) → test pair ≡ b → from ≤ pair.0 → Rise (pair.0 + 1) below pairs
+      → (value_under number (filter test pairs) ≡ Some value → (value_under number pairs ≡ Some value) × (test (number, value) ≡ true))
+      → value_under number (cond b (pair ∷ filter test pairs) (filter test pairs)) ≡ Some value
+      → (value_under number (pair ∷ pairs) ≡ Some value) × (test (number, value) ≡ true)
+  under_on from below number value pair pairs true passes low rise rest there =
+      by_number
+      (λ b. cond b (Some pair.1) (value_under number (filter test pairs)) ≡ Some value → (cond b (Some pair.1) (value_under number pairs) ≡ Some value) × (test (number, value) ≡ true)) pair.0 number
+      (λ e found.
+      let same : pair.1 ≡ value = cc in
+      let whole : ◌≡◌ {A = ℕ × T} pair (number, value) = ap (λ n. (n, pair.1)) e ∙ ap (λ v. (number, v)) same in
+      (found, ap test (sym whole) ∙ passes))
+      (λ ne found. rest found)
+      there
+  under_on from below number value pair pairs false fails low rise rest there =
+      let found = rest there in
+      by_number
+      (λ b. (cond b (Some pair.1) (value_under number pairs) ≡ Some value) × (test (number, value) ≡ true)) pair.0 number
+      (λ e. absurd (let none = value_under-before (pair.0 + 1) below number pairs (omega arith) rise in let t : Some value ≡ None = sym found.0 ∙ none in cc))
+      (λ ne. found)
+
+  -- what is under a number then is under it, and passes
+  under-filter : (from below number : ℕ) (value : T) (pairs : List (ℕ × T)) → Rise from below pairs → value_under number (filter test pairs) ≡ Some value
+      → (value_under number pairs ≡ Some value) × (test (number, value) ≡ true)
+  under-filter from below number value [] rise is = absurd cc
+  under-filter from below number value (pair ∷ pairs) rise is =
+      under_on from below number value pair pairs (test pair) refl rise.0 rise.2 (λ there. under-filter (pair.0 + 1) below number value pairs rise.2 there) is
+
+-- a job that comes next, and that nobody has taken
+record IsFreeJob (state : State) (job : ℕ) : Type 0 where
+  value : Job
+  there : value_under job state.jobs ≡ Some value
+  free : not value.leased ≡ true
+
+free_job_found : (state : State) (job : ℕ) → IsInOrder state → next_job state ≡ Some job → IsFreeJob state job
+free_job_found state job order is =
+    let end = state.last_job + 1 in
+    let found = first_found (λ (j : Job). list_all (λ other. nat_le j.returns other.1.returns) (free_jobs state)) 1 end job (free_jobs state)
+    (Rise-filter (λ (pair : ℕ × Job). not pair.1.leased) 1 end state.jobs order.jobs) is in
+    let under = under-filter (λ (pair : ℕ × Job). not pair.1.leased) 1 end job found.value state.jobs order.jobs found.there in
+    record { value = found.value; there = under.0; free = under.1 }
+
+not_false : (b : Bool) → not b ≡ true → b ≡ false
+not_false true is = absurd cc
+not_false false is = refl
+
+-- the job that is called next may be taken
+pub next_job_may_be_taken : (rules : Rules) (state : State) (job : ℕ) → IsInOrder state → next_job state ≡ Some job → MayPass rules state (TookJob job)
+next_job_may_be_taken rules state job order is =
+    let free = free_job_found state job order is in
+    some_and (value_under job state.jobs) free.value (λ j. j.leased ≡ false) free.there (not_false free.value.leased free.free)
+
+-- it is held
+pub next_job_is_held : (state : State) (job : ℕ) → IsInOrder state → next_job state ≡ Some job → IsSome (url_of job state)
+next_job_is_held state job order is =
+    let free = free_job_found state job order is in
+    subst (λ j. IsSome (option_map (λ job. job.url) j)) (sym free.there) refl

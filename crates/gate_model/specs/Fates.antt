@@ -17,9 +17,9 @@ pub data Fate : Type 0 where
   stored : Fate
 
 -- the entries are lawful, each in the state that those before it left
-abbrev pub AreLawful : Rules → State → List Entry → Type 0
-AreLawful rules state [] = ⊤
-AreLawful rules state (entry ∷ entries) = IsLawful rules state entry × AreLawful rules (does state entry) entries
+abbrev pub AreLawful : (birth : ℕ) → Rules → State → List Entry → Type 0
+AreLawful birth rules state [] = ⊤
+AreLawful birth rules state (entry ∷ entries) = IsLawful rules state entry × AreLawful birth rules (does birth state entry) entries
 
 -- an entry that a store keeps is sound; of one that passes nothing is asked
 abbrev pub IsSoundIn : State → Entry → Type 0
@@ -27,9 +27,9 @@ IsSoundIn state (recorded kept) = IsSound state kept
 IsSoundIn state (passing brief) = ⊤
 
 -- the entries are sound, each in the state that those before it left
-abbrev pub AreSound : State → List Entry → Type 0
-AreSound state [] = ⊤
-AreSound state (entry ∷ entries) = IsSoundIn state entry × AreSound (does state entry) entries
+abbrev pub AreSound : (birth : ℕ) → State → List Entry → Type 0
+AreSound birth state [] = ⊤
+AreSound birth state (entry ∷ entries) = IsSoundIn state entry × AreSound birth (does birth state entry) entries
 
 -- what becomes of a message by an entry that ends one, and else
 abbrev pub ended_by : (message : ℕ) → Recorded → Fate → Fate
@@ -68,11 +68,11 @@ abbrev pub IsCounted : State → Type 0
 IsCounted state = AddUp (totals_of state)
 
 -- a message waits before the entries, or they accept it
-abbrev pub IsKnown : State → List Entry → (message : ℕ) → Type 0
-IsKnown state entries message = Has state.waiting message ⊎ ((state.last_message < message) × (message ≤ (after state entries).last_message))
+abbrev pub IsKnown : (birth : ℕ) → State → List Entry → (message : ℕ) → Type 0
+IsKnown birth state entries message = Has state.waiting message ⊎ ((state.last_message < message) × (message ≤ (after birth state entries).last_message))
 
 -- The law of fates: no message ends twice; one that is known is stored exactly where it still waits; and all of them are counted.
-pub record HaveFates (state : State) (entries : List Entry) : Type 0 where
+pub record HaveFates (birth : ℕ) (state : State) (entries : List Entry) : Type 0 where
   pub once : (message : ℕ) → count_by (is_end_of message) entries ≤ 1
-  pub stored : (message : ℕ) → IsKnown state entries message → ((fate entries message ≡ stored) ↔ Has (after state entries).waiting message)
-  pub counted : IsCounted (after state entries)
+  pub stored : (message : ℕ) → IsKnown birth state entries message → ((fate entries message ≡ stored) ↔ Has (after birth state entries).waiting message)
+  pub counted : IsCounted (after birth state entries)

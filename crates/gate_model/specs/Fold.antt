@@ -1,5 +1,13 @@
 -- What entries do to a state.
-use Rattle.std.specs.Prelude.{ℕ, ◌+◌, ◌-◌, ◌^◌, Bool, true, false, min, List, [], ◌∷◌, ◌++◌, length, map, fold, find, Option, Some, None, option_map, slice_set, if◌then◌else◌}
+use Rattle.std.specs.Prelude.{ℕ, ◌+◌, ◌-◌, ◌^◌, Bool, true, false, ◌&&◌, min, List, [], ◌∷◌, ◌++◌, length, map, drop, fold, Option, Some, None, option_map, slice_set, if◌then◌else◌}
+use Rattle.std.specs.Option.{option_and_then}
+use Rattle.dlr_table.specs.Reports.{oldest}
+use Rattle.dlr_table.specs.declared.awaited.Awaited.{Awaited}
+use Rattle.report_urls.specs.Report.{acked_report, rejected_report, reported_report}
+use Rattle.report_urls.specs.ReportUrl.{report_url, asks_centre}
+use Rattle.url_escapes.specs.Words.{is_filled}
+use Rattle.gate_entries.specs.declared.acked.Acked.{Acked}
+use Rattle.gate_entries.specs.declared.reported.Reported.{Reported}
 use Rattle.sms_record.specs.declared.kind.Kind.{Kind}
 use Rattle.sms_record.specs.declared.kind.Kind.TheVariants.{Delivered, Undelivered, Buffered, Sent, Refused}
 use Rattle.sms_record.specs.declared.sms.Sms.{Sms}
@@ -7,9 +15,10 @@ use Rattle.gate_entries.specs.declared.recorded.Recorded.{Recorded}
 use Rattle.gate_entries.specs.declared.recorded.Recorded.TheVariants as entry
 use Rattle.gate_entries.specs.declared.passing.Passing.{Passing}
 use Rattle.gate_entries.specs.declared.passing.Passing.TheVariants.{Up, Down, Took, Returned, TookJob, ReturnedJob, TookArrival, ReturnedArrival}
+use Rattle.gate_model.specs.declared.job.Job.{Job}
 use Rattle.gate_model.specs.declared.waiting.Waiting.{Waiting}
 use Rattle.gate_model.specs.Numbers.{value_under, without, with_change, numbered_from}
-use Rattle.gate_model.specs.State.{State, Awaited, is_under}
+use Rattle.gate_model.specs.State.{State, Lists, with_list}
 
 -- What happens to a store: an entry that it keeps, or one that is forgotten when it ends.
 pub data Entry : Type 0 where
@@ -44,16 +53,20 @@ leases message lease state = record state { waiting = with_change message (λ wa
 
 -- ---- jobs
 
--- The URL that is called because a report of this kind came for a message, where there is such a message: as yet there is none.
-abbrev pub reported_url : Kind → (message : ℕ) → Option Sms → Option (List ℕ)
-reported_url kind message sms = None
+-- a URL that nobody has taken, nor given back
+abbrev pub new_job : List ℕ → Job
+new_job url = record { url = url; leased = false; returns = 0 }
 
--- a URL to be called gets the next number
+-- a URL, where there is one
+abbrev pub if_any : Option (List ℕ) → List (List ℕ)
+if_any None = []
+if_any (Some url) = url ∷ []
+
+-- a URL, where there is one, is to be called, and gets the next number
 abbrev pub calls : Option (List ℕ) → State → State
-calls None state = state
-calls (Some url) state = record state {
-  jobs = state.jobs ++ (state.last_job + 1, record { url = url; leased = false; returns = 0 }) ∷ [];
-  last_job = state.last_job + 1;
+calls url state = record state {
+  jobs = state.jobs ++ numbered_from (state.last_job + 1) (map new_job (if_any url));
+  last_job = state.last_job + length (if_any url);
 }
 
 -- a job is done with, and with it its lease ends
@@ -84,21 +97,45 @@ is_last Buffered = false
 is_last Sent = false
 is_last Refused = false
 
--- the oldest awaited message of a key is no longer awaited
-abbrev pub without_oldest : (smsc foreign : List ℕ) → List Awaited → List Awaited
-without_oldest smsc foreign [] = []
-without_oldest smsc foreign (first ∷ rest) = if is_under smsc foreign first then rest else first ∷ without_oldest smsc foreign rest
+-- a report is awaited of a message that its centre took: the centre gave it an id, and is asked to report
+abbrev pub is_awaited : (foreign : List ℕ) → Sms → Bool
+is_awaited foreign sms = is_filled foreign && asks_centre sms
+
+-- a message that is awaited: its number, and what it is but for its body
+abbrev pub awaited_as : (message : ℕ) → Sms → Awaited
+awaited_as message sms = record { message = message; sms = record sms { body = [] } }
+
+-- the message of which a centre's answer makes that a report is awaited, where there is one
+abbrev pub asked_by : Acked → Option Sms → List Awaited
+asked_by acked None = []
+asked_by acked (Some sms) = if is_awaited acked.foreign sms then awaited_as acked.message sms ∷ [] else []
+
+-- messages are awaited, last under a key
+abbrev pub awaits : (smsc foreign : List ℕ) → List Awaited → State → State
+awaits smsc foreign more state = record state {
+  awaited = with_list smsc foreign (state.awaited smsc foreign ++ more) state.awaited;
+  awaited_count = state.awaited_count + length more;
+}
+
+-- the oldest message under a key is no longer awaited
+abbrev pub closes : (smsc foreign : List ℕ) → State → State
+closes smsc foreign state = record state {
+  awaited = with_list smsc foreign (drop 1 (state.awaited smsc foreign)) state.awaited;
+  awaited_count = state.awaited_count - 1;
+}
 
 -- a report belonged to no message
 abbrev pub misses : State → State
 misses state = record state { unmatched = state.unmatched + 1 }
 
--- a report of a kind came for the oldest awaited message of a key, where there is one
-abbrev pub hears : Kind → (smsc foreign : List ℕ) → Option Awaited → State → State
-hears kind smsc foreign None state = misses state
-hears kind smsc foreign (Some awaited) state =
-    calls (reported_url kind awaited.number (Some awaited.sms))
-    (if is_last kind then record state { awaited = without_oldest smsc foreign state.awaited } else state)
+-- the oldest message under the key of a report
+abbrev pub first_under : Reported → State → Option Awaited
+first_under reported state = oldest (state.awaited reported.smsc reported.foreign)
+
+-- a report came for the oldest message under its key, where there is one
+abbrev pub hears : Reported → Option Awaited → State → State
+hears reported None state = misses state
+hears reported (Some awaited) state = if is_last reported.kind then closes reported.smsc reported.foreign state else state
 
 -- ---- arrivals
 
@@ -120,27 +157,46 @@ leases_arrival arrival leased state = record state { arrivals = with_change arri
 
 -- ---- entries
 
--- a centre took a message
-abbrev pub acknowledges : (message : ℕ) → State → State
-acknowledges message state =
-    calls (reported_url Sent message (sms_of message state)) (record (ends message state) { acked = state.acked + 1 })
+-- a centre took a message, which is awaited then, if it is to be
+abbrev pub acknowledges : Acked → State → State
+acknowledges acked state =
+    awaits acked.smsc acked.foreign (asked_by acked (sms_of acked.message state)) (record (ends acked.message state) { acked = state.acked + 1 })
 
 -- a message is given up
 abbrev pub rejects : (message : ℕ) → State → State
-rejects message state =
-    calls (reported_url Refused message (sms_of message state)) (record (ends message state) { rejected = state.rejected + 1 })
+rejects message state = record (ends message state) { rejected = state.rejected + 1 }
+
+-- an entry that is kept, but for the URL that it calls and that it is counted
+abbrev pub moves : Recorded → State → State
+moves (entry.Accept accept) state = accepts accept.parts state
+moves (entry.Acked acked) state = acknowledges acked state
+moves (entry.Rejected rejected) state = rejects rejected.message state
+moves (entry.Reported reported) state = hears reported (first_under reported state) state
+moves (entry.Arrived arrived) state = arrives arrived.sms state
+moves (entry.Answered answered) state = accepts answered.parts (answers answered.arrivals state)
+moves (entry.Called called) state = record (ends_job called.job state) { called = state.called + 1 }
+moves (entry.CallDropped dropped) state = record (ends_job dropped.job state) { dropped = state.dropped + 1 }
+
+-- The URL that an entry calls, in the store of this birth. It is that of the message of which the entry speaks: one that its centre took or
+-- that was given up is the message of its number, and a report belongs to the oldest message under its key.
+abbrev pub called_url : (birth : ℕ) → (message : ℕ → Option Sms) → Lists → Recorded → Option (List ℕ)
+called_url birth message lists (entry.Accept accept) = None
+called_url birth message lists (entry.Acked acked) = option_and_then (report_url birth (acked_report acked) acked.message) (message acked.message)
+called_url birth message lists (entry.Rejected rejected) = option_and_then (report_url birth (rejected_report rejected) rejected.message) (message rejected.message)
+called_url birth message lists (entry.Reported reported) =
+    option_and_then (λ awaited. report_url birth (reported_report reported) awaited.message awaited.sms) (oldest (lists reported.smsc reported.foreign))
+called_url birth message lists (entry.Arrived arrived) = None
+called_url birth message lists (entry.Answered answered) = None
+called_url birth message lists (entry.Called called) = None
+called_url birth message lists (entry.CallDropped dropped) = None
+
+-- the URL that an entry calls in a state
+abbrev pub url_in : (birth : ℕ) → State → Recorded → Option (List ℕ)
+url_in birth state kept = called_url birth (λ message. sms_of message state) state.awaited kept
 
 -- an entry that is kept, but that it is counted
-abbrev pub keeps : Recorded → State → State
-keeps (entry.Accept accept) state = accepts accept.parts state
-keeps (entry.Acked acked) state = acknowledges acked.message state
-keeps (entry.Rejected rejected) state = rejects rejected.message state
-keeps (entry.Reported reported) state =
-    hears reported.kind reported.smsc reported.foreign (find (is_under reported.smsc reported.foreign) state.awaited) state
-keeps (entry.Arrived arrived) state = arrives arrived.sms state
-keeps (entry.Answered answered) state = accepts answered.parts (answers answered.arrivals state)
-keeps (entry.Called called) state = record (ends_job called.job state) { called = state.called + 1 }
-keeps (entry.CallDropped dropped) state = record (ends_job dropped.job state) { dropped = state.dropped + 1 }
+abbrev pub keeps : (birth : ℕ) → Recorded → State → State
+keeps birth kept state = calls (url_in birth state kept) (moves kept state)
 
 -- one more entry was recorded
 abbrev pub counts_entry : State → State
@@ -157,11 +213,11 @@ passes (ReturnedJob job) state = returns_job job state
 passes (TookArrival arrival) state = leases_arrival arrival true state
 passes (ReturnedArrival arrival) state = leases_arrival arrival false state
 
--- what an entry does
-abbrev pub does : State → Entry → State
-does state (recorded kept) = counts_entry (keeps kept state)
-does state (passing brief) = passes brief state
+-- what an entry does, in the store of this birth
+abbrev pub does : (birth : ℕ) → State → Entry → State
+does birth state (recorded kept) = counts_entry (keeps birth kept state)
+does birth state (passing brief) = passes brief state
 
 -- what entries do, one after the other
-abbrev pub after : State → List Entry → State
-after state entries = fold does state entries
+abbrev pub after : (birth : ℕ) → State → List Entry → State
+after birth state entries = fold (does birth) state entries

@@ -1,38 +1,42 @@
 -- A gate: the state that it holds, and what keeps it whole.
 use Rattle.std.specs.Prelude.{◌≡◌, ℕ, ◌*◌, ◌<◌, ◌≤◌, ◌^◌, List, [], length, slice_get, All, Option, option_map, ⊤}
 use Rattle.std.specs.Option.{option_and_then, option_map_or}
-use Rattle.std.specs.Prelude.{Bool, is_some}
+use Rattle.std.specs.Prelude.{Bool, false, is_some, IsTrue, IfSome}
 use Rattle.sms_record.specs.declared.sms.Sms.{Sms}
 use Rattle.route_rules.specs.declared.rules.Rules.{Rules}
+use Rattle.dlr_table.specs.Reports.{under, count_of, spare}
 use Rattle.gate_entries.specs.declared.recorded.Recorded.{Recorded}
 use Rattle.gate_entries.specs.declared.recorded.Recorded.TheVariants as entry
 use Rattle.gate_entries.specs.Entry.{IsText}
+use Rattle.gate_entries.specs.declared.acked.Acked.{Acked}
 use Rattle.gate_entries.specs.declared.limits.TheConstants.{MOST_MESSAGES}
 use Rattle.gate_model.specs.declared.gate.Gate.{Gate}
 use Rattle.gate_model.specs.declared.ready.Ready.{Ready}
 use Rattle.gate_model.specs.declared.waiting.Waiting.{Waiting}
+use Rattle.gate_model.specs.Fold.{is_awaited, sms_of, url_in}
 use Rattle.gate_model.specs.Numbers.{value_under}
 use Rattle.gate_model.specs.State.{State, IsInOrder, flights}
 use Rattle.gate_model.specs.Lawful.{most_entries}
 
--- the state that a gate holds; as yet it has no jobs, and awaits no reports
+-- the state that a gate holds
 abbrev pub model_of : Gate → State
 model_of gate = record {
   waiting = gate.waiting.pairs;
   arrivals = gate.arrivals.pairs;
-  jobs = [];
-  awaited = [];
+  jobs = gate.jobs.pairs;
+  awaited = under gate.reports;
+  awaited_count = count_of gate.reports;
   up = gate.up.items;
   accepted = gate.counts.accepted;
   acked = gate.counts.acked;
   rejected = gate.counts.rejected;
   unmatched = gate.counts.unmatched;
-  called = 0;
-  dropped = 0;
+  called = gate.counts.called;
+  dropped = gate.counts.dropped;
   arrived = gate.counts.arrived;
   entries = gate.counts.entries;
   last_message = gate.counts.last_message;
-  last_job = 0;
+  last_job = gate.counts.last_job;
   last_arrival = gate.counts.last_arrival;
 }
 
@@ -47,6 +51,9 @@ pub record IsBounded (state : State) : Type 0 where
   pub acked : state.acked ≤ state.entries
   pub rejected : state.rejected ≤ state.entries
   pub unmatched : state.unmatched ≤ state.entries
+  pub called : state.called ≤ state.entries
+  pub dropped : state.dropped ≤ state.entries
+  pub last_job : state.last_job ≤ state.entries
   pub arrived : state.arrived ≤ state.entries
   pub last_arrival : state.last_arrival ≤ state.entries
 
@@ -61,11 +68,12 @@ pub record IsWhole (rules : Rules) (flight : List ℕ) (state : State) : Type 0 
 abbrev pub IsGate : Gate → Type 0
 IsGate gate = IsWhole gate.rules gate.flight.items (model_of gate)
 
--- a gate is still one, under the same rules, and holds this state now
+-- a gate is still one, under the same rules, and holds this state now; what was a place for a job still is one
 pub record Becomes (old new : Gate) (state : State) : Type 0 where
   pub whole : IsGate new
   pub rules : rules_of new ≡ rules_of old
   pub holds : model_of new ≡ state
+  pub places : old.jobs.room ≤ new.jobs.room
 
 -- a gate holds what it held, under the same rules
 pub record KeepsAll (old new : Gate) : Type 0 where
@@ -77,16 +85,20 @@ pub record KeepsAll (old new : Gate) : Type 0 where
 abbrev pub lease_under : (message : ℕ) → List (ℕ × Waiting) → Option ℕ
 lease_under message waiting = option_and_then (λ w. w.lease) (value_under message waiting)
 
--- a gate has the memory that an entry needs
-abbrev pub HasRoom : Gate → Recorded → Type 0
-HasRoom gate (entry.Accept accept) = length accept.parts ≤ gate.waiting.room
-HasRoom gate (entry.Acked acked) = ⊤
-HasRoom gate (entry.Rejected rejected) = ⊤
-HasRoom gate (entry.Reported reported) = ⊤
-HasRoom gate (entry.Arrived arrived) = 1 ≤ gate.arrivals.room
-HasRoom gate (entry.Answered answered) = length answered.parts ≤ gate.waiting.room
-HasRoom gate (entry.Called called) = ⊤
-HasRoom gate (entry.CallDropped dropped) = ⊤
+-- a report is awaited of the message that its centre took
+abbrev pub is_awaited_in : Acked → State → Bool
+is_awaited_in acked state = option_map_or (is_awaited acked.foreign) (sms_of acked.message state) false
+
+-- a gate has the memory that an entry needs, but for the URL that it calls
+abbrev pub HasRoomFor : Gate → Recorded → Type 0
+HasRoomFor gate (entry.Accept accept) = length accept.parts ≤ gate.waiting.room
+HasRoomFor gate (entry.Acked acked) = IsTrue (is_awaited_in acked (model_of gate)) → 0 < spare gate.reports acked.smsc acked.foreign
+HasRoomFor gate (entry.Rejected rejected) = ⊤
+HasRoomFor gate (entry.Reported reported) = ⊤
+HasRoomFor gate (entry.Arrived arrived) = 1 ≤ gate.arrivals.room
+HasRoomFor gate (entry.Answered answered) = length answered.parts ≤ gate.waiting.room
+HasRoomFor gate (entry.Called called) = ⊤
+HasRoomFor gate (entry.CallDropped dropped) = ⊤
 
 -- the entry that was prepared
 abbrev pub entry_of : Ready → Recorded
@@ -95,6 +107,12 @@ entry_of ready = ready.entry
 -- the birth of the store that it was prepared for
 abbrev pub birth_of : Ready → ℕ
 birth_of ready = ready.birth
+
+-- An entry that was prepared may be done: the gate has the memory that it needs, and with it stands the URL that it calls in the gate's state.
+pub record HasRoom (gate : Gate) (ready : Ready) : Type 0 where
+  pub memory : HasRoomFor gate (entry_of ready)
+  pub url : ready.url ≡ url_in (birth_of ready) (model_of gate) (entry_of ready)
+  pub job : IfSome ready.url (λ url. 1 ≤ gate.jobs.room)
 
 -- ---- what is asked of a state
 

@@ -18,7 +18,8 @@ use Rattle.gate_model.specs.declared.reply.Refusal.{Refusal}
 use Rattle.gate_model.specs.declared.reply.Refusal.TheVariants.{NoRoute, Full}
 use Rattle.gate_model.specs.declared.waiting.Waiting.{Waiting}
 use Rattle.gate_model.specs.Numbers.{is_held, value_under}
-use Rattle.gate_model.specs.State.{State, Job, flight}
+use Rattle.gate_model.specs.declared.job.Job.{Job}
+use Rattle.gate_model.specs.State.{State, flight}
 use Rattle.gate_model.specs.Fold.{Entry, recorded, passing}
 use Rattle.gate_model.specs.Routing.{due_time, link_for}
 
@@ -60,6 +61,16 @@ suits state (entry.Arrived arrived) = true
 suits state (entry.Answered answered) = are_arrivals state answered.arrivals && is_time answered.time
 suits state (entry.Called called) = is_held called.job state.jobs
 suits state (entry.CallDropped dropped) = is_held dropped.job state.jobs
+
+-- the time of an entry that says what became of a message is a reading of the clock
+abbrev pub is_timed : Recorded → Bool
+is_timed (entry.Acked acked) = is_time acked.time
+is_timed (entry.Rejected rejected) = is_time rejected.time
+is_timed (entry.Reported reported) = is_time reported.time
+is_timed other = true
+
+abbrev pub IsTimed : Recorded → Type 0
+IsTimed kept = IsTrue (is_timed kept)
 
 -- sound: an entry of the grammar, which has the counts and the lengths, that suits the state
 abbrev pub IsSound : State → Recorded → Type 0

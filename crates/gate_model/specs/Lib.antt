@@ -1,4 +1,5 @@
 pub mod Acceptor
+pub mod Due
 pub mod Fates
 pub mod Fold
 pub mod Gate

@@ -1,7 +1,6 @@
 -- What a store's payloads are read as: the fold of their entries.
-use Rattle.std.specs.Prelude.{◌≡◌, ℕ, ◌<◌, Bool, true, false, IsTrue, List}
+use Rattle.std.specs.Prelude.{◌≡◌, ℕ, ◌<◌, List}
 use Rattle.gate_entries.specs.declared.recorded.Recorded.{Recorded}
-use Rattle.gate_entries.specs.declared.recorded.Recorded.TheVariants as entry
 use Rattle.gate_entries.specs.Entry.{IsEntry, entry_octets}
 use Rattle.gate_model.specs.declared.loader.Loader.{Loader}
 use Rattle.gate_model.specs.declared.gate.Gate.{Gate}
@@ -10,29 +9,17 @@ use Rattle.gate_model.specs.Gate.{model_of}
 use Rattle.gate_model.specs.Lawful.{IsSound, most_entries}
 use Rattle.gate_model.specs.State.{State}
 
--- the kinds of entries that a store may keep as yet: no reports come, and no URLs are called
-abbrev pub is_served : Recorded → Bool
-is_served (entry.Accept accept) = true
-is_served (entry.Acked acked) = true
-is_served (entry.Rejected rejected) = true
-is_served (entry.Reported reported) = false
-is_served (entry.Arrived arrived) = true
-is_served (entry.Answered answered) = true
-is_served (entry.Called called) = false
-is_served (entry.CallDropped dropped) = false
-
--- A payload is an entry, and it may come next: it is of a kind that is served, it is sound, and fewer were recorded than ever may be.
+-- A payload is an entry, and it may come next: it is sound, and fewer were recorded than ever may be.
 pub record ComesNext (state : State) (payload : List ℕ) (kept : Recorded) : Type 0 where
   pub spelled : payload ≡ entry_octets kept
-  pub served : IsTrue (is_served kept)
   pub sound : IsSound state kept
   pub few : state.entries < most_entries
 
 -- A payload is an entry that comes next, and the state is what that makes of it.
-pub record IsTaken (payload : List ℕ) (old new : State) : Type 0 where
+pub record IsTaken (birth : ℕ) (payload : List ℕ) (old new : State) : Type 0 where
   pub kept : Recorded
   pub next : ComesNext old payload kept
-  pub holds : new ≡ does old (recorded kept)
+  pub holds : new ≡ does birth old (recorded kept)
 
 -- a payload is no entry at all
 abbrev pub IsNoEntry : (payload : List ℕ) → Type 0
@@ -48,3 +35,7 @@ gate_in loader = loader.gate
 
 abbrev pub loaded : Loader → State
 loaded loader = model_of (gate_in loader)
+
+-- the birth of the store that it is read for
+abbrev pub birth_in : Loader → ℕ
+birth_in loader = loader.birth

@@ -5,7 +5,8 @@ use Rattle.sms_record.specs.declared.sms.Sms.{Sms}
 use Rattle.route_rules.specs.declared.rules.Rules.{Rules}
 use Rattle.route_rules.specs.Routes.{chosen}
 use Rattle.gate_model.specs.declared.waiting.Waiting.{Waiting}
-use Rattle.gate_model.specs.State.{State, Job, flights, is_link}
+use Rattle.gate_model.specs.declared.job.Job.{Job}
+use Rattle.gate_model.specs.State.{State, flights, is_link}
 
 -- when a message may be sent at the earliest
 abbrev pub due_time : Sms → ℕ

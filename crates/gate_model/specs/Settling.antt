@@ -1,9 +1,10 @@
 -- What is left of a state when its store is opened again.
-use Rattle.std.specs.Prelude.{◌≡◌, false, List, [], ◌∷◌, map, None}
+use Rattle.std.specs.Prelude.{◌≡◌, ℕ, false, List, [], ◌∷◌, map, None}
 use Rattle.gate_model.specs.declared.arrival.Arrival.{Arrival}
 use Rattle.gate_model.specs.declared.waiting.Waiting.{Waiting}
 use Rattle.gate_model.specs.Numbers.{with_changes}
-use Rattle.gate_model.specs.State.{State, Job}
+use Rattle.gate_model.specs.declared.job.Job.{Job}
+use Rattle.gate_model.specs.State.{State}
 use Rattle.gate_model.specs.Fold.{Entry, recorded, passing, after}
 
 -- no link has taken it
@@ -34,5 +35,5 @@ kept (recorded entry ∷ entries) = recorded entry ∷ kept entries
 kept (passing entry ∷ entries) = kept entries
 
 -- the law of settling: what settles after all entries settles after those that are kept
-abbrev pub SettlesAlike : State → List Entry → Type 0
-SettlesAlike state entries = settle (after state entries) ≡ settle (after state (kept entries))
+abbrev pub SettlesAlike : (birth : ℕ) → State → List Entry → Type 0
+SettlesAlike birth state entries = settle (after birth state entries) ≡ settle (after birth state (kept entries))

@@ -1,24 +1,24 @@
 -- What a store of messages holds, and what it has counted.
-use Rattle.std.specs.Prelude.{ℕ, ◌+◌, Bool, false, ◌&&◌, ◌==◌, List, [], length, map, replicate, count_by, Option, Some, None, bytes_eq}
+use Rattle.std.specs.Prelude.{ℕ, ◌+◌, Bool, false, ◌&&◌, ◌==◌, List, [], length, map, replicate, count_by, Option, Some, None, bytes_eq, if◌then◌else◌}
 use Rattle.std.specs.List.{range_with_len}
-use Rattle.sms_record.specs.declared.sms.Sms.{Sms}
+use Rattle.dlr_table.specs.declared.awaited.Awaited.{Awaited}
 use Rattle.gate_model.specs.declared.arrival.Arrival.{Arrival}
+use Rattle.gate_model.specs.declared.job.Job.{Job}
 use Rattle.gate_model.specs.declared.totals.Totals.{Totals}
 use Rattle.gate_model.specs.declared.waiting.Waiting.{Waiting}
 use Rattle.gate_model.specs.Numbers.{Rise}
 
--- A URL that is still to be called, whether somebody has taken it, and how often it was given back since the store was opened.
-pub record Job : Type 0 where
-  pub url : List ℕ
-  pub leased : Bool
-  pub returns : ℕ
+-- the messages of which a report is awaited: a list under each key of an SMSC id and a foreign id, the oldest first
+abbrev pub Lists : Type 0
+Lists = (smsc foreign : List ℕ) → List Awaited
 
--- A message of which its centre is to report, under the link's id and the centre's.
-pub record Awaited : Type 0 where
-  pub smsc : List ℕ
-  pub foreign : List ℕ
-  pub number : ℕ
-  pub sms : Sms
+-- these two ids are the key
+abbrev pub is_key : (smsc foreign : List ℕ) → List ℕ → List ℕ → Bool
+is_key smsc foreign other_smsc other_foreign = bytes_eq other_smsc smsc && bytes_eq other_foreign foreign
+
+-- the list under one key is another one
+abbrev pub with_list : (smsc foreign : List ℕ) → List Awaited → Lists → Lists
+with_list smsc foreign list lists other_smsc other_foreign = if is_key smsc foreign other_smsc other_foreign then list else lists other_smsc other_foreign
 
 -- Messages, jobs and arrivals have numbers of their own, from 1. What has ended is no longer there, and neither is its lease.
 pub record State : Type 0 where
@@ -28,8 +28,9 @@ pub record State : Type 0 where
   pub arrivals : List (ℕ × Arrival)
   -- URLs that are still to be called
   pub jobs : List (ℕ × Job)
-  -- messages of which a report is awaited, the oldest first
-  pub awaited : List Awaited
+  -- messages of which a report is awaited, under each key, and how many these are in all
+  pub awaited : Lists
+  pub awaited_count : ℕ
   -- of each link whether it is up
   pub up : List Bool
   -- what was counted since the store's birth
@@ -52,7 +53,8 @@ empty links = record {
   waiting = [];
   arrivals = [];
   jobs = [];
-  awaited = [];
+  awaited = λ smsc foreign. [];
+  awaited_count = 0;
   up = replicate links false;
   accepted = 0;
   acked = 0;
@@ -89,10 +91,6 @@ flight state link = flight_of state.waiting link
 abbrev pub flights : State → List ℕ
 flights state = map (flight state) (range_with_len 0 (length state.up))
 
--- the awaited message is of this key
-abbrev pub is_under : (smsc foreign : List ℕ) → Awaited → Bool
-is_under smsc foreign awaited = bytes_eq awaited.smsc smsc && bytes_eq awaited.foreign foreign
-
 -- what a state counts
 abbrev pub totals_of : State → Totals
 totals_of state = record {
@@ -100,7 +98,7 @@ totals_of state = record {
   acked = state.acked;
   rejected = state.rejected;
   waiting = length state.waiting;
-  awaited = length state.awaited;
+  awaited = state.awaited_count;
   unmatched = state.unmatched;
   jobs = length state.jobs;
   called = state.called;

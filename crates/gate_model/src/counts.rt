@@ -7,9 +7,12 @@ pub(crate) struct Counts {
     pub(crate) acked: u64,
     pub(crate) rejected: u64,
     pub(crate) unmatched: u64,
+    pub(crate) called: u64,
+    pub(crate) dropped: u64,
     pub(crate) arrived: u64,
     pub(crate) entries: u64,
     pub(crate) last_message: u64,
+    pub(crate) last_job: u64,
     pub(crate) last_arrival: u64,
 }
 
@@ -20,9 +23,12 @@ impl Counts {
         acked: 0,
         rejected: 0,
         unmatched: 0,
+        called: 0,
+        dropped: 0,
         arrived: 0,
         entries: 0,
         last_message: 0,
+        last_job: 0,
         last_arrival: 0,
     };
 }

@@ -6,16 +6,20 @@ ghost use Rattle.gate_model.specs.Gate.{model_of, rules_of, Becomes, IsGate, is_
 ghost use Rattle.gate_model.specs.State.{empty, totals_of};
 
 mod checking;
+mod jobs;
 mod leases;
 mod links;
 mod messages;
 mod next;
 mod passing;
 mod recording;
+mod reports;
+mod rooms;
 mod soundness;
 
 use crate::counts::Counts;
-use crate::{Arrival, Totals, Waiting};
+use crate::{Arrival, Job, Totals, Waiting};
+use dlr_table::Reports;
 use kn_base::Memory;
 use links::links_down;
 use numbered_table::Table;
@@ -26,6 +30,7 @@ use std::alloc::Global;
 /// What a store of messages holds, in memory. Contracts see the state that it holds (`model_of`) and its rules.
 #[derive(Drop)]
 pub struct Gate {
+    alloc: Global,
     rules: Rules,
     /// Of each link whether it is up.
     up: Vec<bool>,
@@ -33,6 +38,8 @@ pub struct Gate {
     flight: Vec<u64>,
     waiting: Table<Waiting>,
     arrivals: Table<Arrival>,
+    jobs: Table<Job>,
+    reports: Reports,
     counts: Counts,
 }
 
@@ -47,14 +54,23 @@ impl Gate {
         ensures err { IfErr result (λ back. back.0 ≡ rules) }
     {
         match links_down(alloc, rules.links.len()) {
-            Ok((up, flight)) => Ok(Gate {
-                rules,
-                up,
-                flight,
-                waiting: Table::new(alloc),
-                arrivals: Table::new(alloc),
-                counts: Counts::NONE,
-            }),
+            Ok((up, flight)) => {
+                let waiting = Table::new(alloc);
+                let arrivals = Table::new(alloc);
+                let jobs = Table::new(alloc);
+                let reports = Reports::new(alloc);
+                Ok(Gate {
+                    alloc,
+                    rules,
+                    up,
+                    flight,
+                    waiting,
+                    arrivals,
+                    jobs,
+                    reports,
+                    counts: Counts::NONE,
+                })
+            }
             Err(Memory) => Err((rules, Memory)),
         }
     }
@@ -85,11 +101,11 @@ impl Gate {
             acked: self.counts.acked,
             rejected: self.counts.rejected,
             waiting: self.waiting.len() as u64,
-            awaited: 0,
+            awaited: self.reports.count() as u64,
             unmatched: self.counts.unmatched,
-            jobs: 0,
-            called: 0,
-            dropped: 0,
+            jobs: self.jobs.len() as u64,
+            called: self.counts.called,
+            dropped: self.counts.dropped,
             arrived: self.counts.arrived,
             arrivals: self.arrivals.len() as u64,
             entries: self.counts.entries,
@@ -116,12 +132,14 @@ impl Gate {
         }
     }
 
-    /// The URL of a job that is still to be called. As yet there is none.
+    /// The URL of a job that is still to be called.
     pub fn job(&self, job: u64) -> Option<&[u8]>
         ensures { option_copied result ≡ url_of job (model_of self.now) }
     {
-        let _ = job;
-        None
+        match self.jobs.get(job) {
+            Some(held) => Some(held.url.as_slice()),
+            None => None,
+        }
     }
 
     /// Whether a link has taken a message.
@@ -134,11 +152,13 @@ impl Gate {
         }
     }
 
-    /// How often a job was given back since the store was opened. As yet there is none.
+    /// How often a job was given back since the store was opened. One that isn't held never was.
     pub fn tries(&self, job: u64) -> u32
         ensures { result ≡ returns_of job (model_of self.now) }
     {
-        let _ = job;
-        0
+        match self.jobs.get(job) {
+            Some(held) => held.returns,
+            None => 0,
+        }
     }
 }

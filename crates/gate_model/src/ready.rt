@@ -4,6 +4,7 @@ ghost use Rattle.std.specs.Prelude.{◌≡◌};
 ghost use Rattle.gate_model.specs.Gate.{birth_of, entry_of};
 
 use gate_entries::Recorded;
+use kn_base::Octets;
 
 /// An entry for which a gate has taken all memory that it needs.
 #[derive(Drop)]
@@ -11,6 +12,8 @@ pub struct Ready {
     pub(crate) entry: Recorded,
     /// The birth of the store, from which internal ids are made.
     pub(crate) birth: u64,
+    /// The URL that the entry calls, with its escapes filled.
+    pub(crate) url: Option<Octets>,
 }
 
 impl Ready {
@@ -32,7 +35,11 @@ impl Ready {
     pub fn into_entry(self) -> Recorded
         ensures { result ≡ entry_of self }
     {
-        let Ready { entry, birth: _ } = self;
+        let Ready {
+            entry,
+            birth: _,
+            url: _,
+        } = self;
         entry
     }
 }

@@ -10,28 +10,33 @@ use Rattle.route_rules.specs.declared.rules.Rules.{Rules}
 use Rattle.store_disk.specs.Story.{Story}
 use Rattle.gate_store.specs.Deeds.{Leads, IsReason, AreReasoned, MayBeUnsure, entry_of, entries_of, state_behind, done_of}
 use Rattle.gate_store.specs.Entries.{state_of}
-use Rattle.gate_store.specs.Store.{IsStore, rules_in, state_in, unsure_in}
+use Rattle.gate_store.specs.Store.{IsStore, birth_in, rules_in, state_in, unsure_in}
 use Rattle.gate_store.specs.declared.store.Store.{Store}
 
 -- nothing is left out of what entries make that are kept
-pub settle-state_of : (rules : Rules) (entries : List Recorded) → settle (state_of rules entries) ≡ state_of rules entries
-settle-state_of rules entries = settled_since_birth (length rules.links) entries
+pub settle-state_of : (birth : ℕ) (rules : Rules) (entries : List Recorded) → settle (state_of birth rules entries) ≡ state_of birth rules entries
+settle-state_of birth rules entries = settled_since_birth birth (length rules.links) entries
 
 module _ {D : Type 0} (tells : Bool) (story : D → Story) (faults calls : D → ℕ) where
   -- each outcome has its reason
-  pub reasoned : (rules : Rules) (state : State) (a c : Store D) (deeds : List Deed) → Leads tells story faults calls a deeds c → rules_in a ≡ rules → state_in a ≡ state
-      → AreReasoned rules state deeds
-  reasoned rules state a c [] leads ruled holds = tt
-  reasoned rules state a c (deed ∷ deeds) leads ruled holds = (
+  pub reasoned : (birth : ℕ) (rules : Rules) (state : State) (a c : Store D) (deeds : List Deed) → Leads tells story faults calls a deeds c → birth_in a ≡ birth
+      → rules_in a ≡ rules → state_in a ≡ state → AreReasoned birth rules state deeds
+  reasoned birth rules state a c [] leads born ruled holds = tt
+  reasoned birth rules state a c (deed ∷ deeds) leads born ruled holds = (
     subst (λ r. IsReason r state (entry_of deed) deed.outcome) ruled (subst (λ s. IsReason (rules_in a) s (entry_of deed) deed.outcome) holds leads.1.reason),
-    reasoned rules (state_behind state (entry_of deed) deed.outcome) leads.0 c deeds leads.2 (leads.1.ruled ∙ ruled)
-        (leads.1.state ∙ ap (λ s. state_behind s (entry_of deed) deed.outcome) holds),
+    reasoned birth rules (state_behind birth state (entry_of deed) deed.outcome) leads.0 c deeds leads.2 (leads.1.born ∙ born) (leads.1.ruled ∙ ruled)
+        (leads.1.state ∙ ap (λ b. state_behind b (state_in a) (entry_of deed) deed.outcome) born ∙ ap (λ s. state_behind birth s (entry_of deed) deed.outcome) holds),
   )
 
   -- the rules stay
   pub ruled_on : (a c : Store D) (deeds : List Deed) → Leads tells story faults calls a deeds c → rules_in c ≡ rules_in a
   ruled_on a c [] leads = ap rules_in leads
   ruled_on a c (deed ∷ deeds) leads = ruled_on leads.0 c deeds leads.2 ∙ leads.1.ruled
+
+  -- and the birth
+  pub born_on : (a c : Store D) (deeds : List Deed) → Leads tells story faults calls a deeds c → birth_in c ≡ birth_in a
+  born_on a c [] leads = ap birth_in leads
+  born_on a c (deed ∷ deeds) leads = born_on leads.0 c deeds leads.2 ∙ leads.1.born
 
   -- the store holds the entries of those that were done behind those that it held
   pub gained : (a c : Store D) (deeds : List Deed) → Leads tells story faults calls a deeds c

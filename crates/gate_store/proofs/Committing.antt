@@ -37,9 +37,9 @@ abbrev pub failed_as : (T : Type 0) → DiskFailed → Result T DiskFailed
 failed_as T failed = Err failed
 
 -- areas that reopen to what is left of a state may do so whatever is unsure
-pub surely : (rules : Rules) (state : State) (unsure : Option Recorded) (areas : Areas) → ReopensTo rules state areas → MayReopen rules state unsure areas
-surely rules state None areas reopens = reopens
-surely rules state (Some kept) areas reopens = inl reopens
+pub surely : (birth : ℕ) (rules : Rules) (state : State) (unsure : Option Recorded) (areas : Areas) → ReopensTo rules state areas → MayReopen birth rules state unsure areas
+surely birth rules state None areas reopens = reopens
+surely birth rules state (Some kept) areas reopens = inl reopens
 
 module _ {D : Type 0} (tells : Bool) (story : D → Story) where
   -- what an append does by its answer
@@ -56,10 +56,10 @@ module _ {D : Type 0} (tells : Bool) (story : D → Story) where
 
   -- an entry that may be recorded may come next behind those that a store holds
   pub comes_next : (store : Store D) (birth : ℕ) (entries : List Recorded) (kept : Recorded) → IsStore tells story store birth entries → MayRecord store kept
-      → (state_in store).entries < most_entries → ComesNext (state_of (rules_in store) entries) (entry_octets kept) kept
+      → (state_in store).entries < most_entries → ComesNext (state_of birth (rules_in store) entries) (entry_octets kept) kept
   comes_next store birth entries kept is may few =
       subst (λ (s : State). ComesNext s (entry_octets kept) kept) is.state
-      (record { spelled = refl; served = may.served; sound = sound-settle (state_in store) kept may.sound; few = few })
+      (record { spelled = refl; sound = sound-settle (state_in store) kept may.sound; few = few })
 
 module _ {D : Type 0} (tells : Bool) (story : D → Story) (faults calls : D → ℕ) (old new : Store D) where
   -- what was unsure is taken back, or the disk failed
@@ -67,7 +67,7 @@ module _ {D : Type 0} (tells : Bool) (story : D → Story) (faults calls : D →
       (same_reserved : reserved new.journal ≡ reserved old.journal) (kept : faults (disk_in old) ≤ faults (disk_in new))
       (bounded : calls (disk_in new) ≤ calls (disk_in old) + 2) where
     store_now : (birth : ℕ) (entries : List Recorded) (unsure : Option Recorded) → IsStore tells story old birth entries → unsure_in new ≡ unsure
-        → IsJournal tells story new.journal birth (payloads entries) (option_map entry_octets unsure) → UnsureComesNext (rules_in old) entries unsure
+        → IsJournal tells story new.journal birth (payloads entries) (option_map entry_octets unsure) → UnsureComesNext birth (rules_in old) entries unsure
         → IsStore tells story new birth entries
     store_now birth entries unsure is doubt journal next =
         make_store tells story new (rules_in old) birth entries unsure (ap rules_of gate) doubt journal (stays ∙ is.handed_out) is.in_turn next
@@ -77,7 +77,7 @@ module _ {D : Type 0} (tells : Bool) (story : D → Story) (faults calls : D →
     stops_repaired : {T : Type 0} (result : Result T DiskFailed)
         → ((birth : ℕ) (payloads : List (List ℕ)) (unsure : Option (List ℕ)) → IsJournal tells story old.journal birth payloads unsure
         → Repairs tells story old.journal new.journal result birth payloads unsure)
-        → OnTrue tells (LeavesOnly (story (disk_in old)) (story (disk_in new)) (MayReopen (rules_in old) (state_in old) (unsure_in old)))
+        → OnTrue tells (LeavesOnly (story (disk_in old)) (story (disk_in new)) (MayReopen (birth_in old) (rules_in old) (state_in old) (unsure_in old)))
     stops_repaired result repaired =
         let is = is_open.2 in
         told_leaves_weaker tells (story (disk_in old)) (story (disk_in new)) _ _ (λ image holds. reopened_by tells story old is_open.0 is_open.1 is image holds)
@@ -130,23 +130,24 @@ module _ {D : Type 0} (tells : Bool) (story : D → Story) (faults calls : D →
 
     stops_appended : {T : Type 0} (result : Result T DiskFailed)
         → ((birth : ℕ) (payloads : List (List ℕ)) → IsJournal tells story old.journal birth payloads None → Appends tells story old.journal new.journal result birth payloads)
-        → OnTrue tells (LeavesOnly (story (disk_in old)) (story (disk_in new)) (MayReopenIn (rules_in old) (state_in old) (unsure_in old) entry))
+        → OnTrue tells (LeavesOnly (story (disk_in old)) (story (disk_in new)) (MayReopenIn (birth_in old) (rules_in old) (state_in old) (unsure_in old) entry))
     stops_appended result appended =
         let birth = is_open.0 in
         let entries = is_open.1 in
         let is = is_open.2 in
         let next = comes_next tells story old birth entries entry is may few in
         let stops = (appended birth (payloads entries) (journal_before birth entries is)).stops in
-        subst (λ (u : Option Recorded). OnTrue tells (LeavesOnly (story (disk_in old)) (story (disk_in new)) (MayReopenIn (rules_in old) (state_in old) u entry))) (sym none)
+        subst (λ (u : Option Recorded). OnTrue tells (LeavesOnly (story (disk_in old)) (story (disk_in new)) (MayReopenIn (birth_in old) (rules_in old) (state_in old) u entry))) (sym none)
         (told_leaves_weaker tells (story (disk_in old)) (story (disk_in new)) _ _
-        (λ image holds. may_reopen_in (rules_in old) entries (state_in old) is.in_turn is.state birth (area_of old.journal) image entry next
-        (subst (λ octets. MayHold birth (area_of old.journal) (payloads entries) (Some octets) image) is_reserved holds))
+        (λ image holds. subst (λ b. MayReopenIn b (rules_in old) (state_in old) None entry image) (sym is.journal.born)
+        (may_reopen_in birth (rules_in old) entries (state_in old) is.in_turn is.state (area_of old.journal) image entry next
+        (subst (λ octets. MayHold birth (area_of old.journal) (payloads entries) (Some octets) image) is_reserved holds)))
         stops)
 
     -- it was appended, and done
     pub commits_ok : {T : Type 0} (done : T) (reply : Reply)
         → ((birth : ℕ) (payloads : List (List ℕ)) → IsJournal tells story old.journal birth payloads None → Appends tells story old.journal new.journal (Ok done) birth payloads)
-        → unsure_in new ≡ None → state_in new ≡ does (state_in old) (recorded entry) → reply ≡ reply_to (rules_in old) (state_in old) entry
+        → unsure_in new ≡ None → state_in new ≡ does (birth_in old) (state_in old) (recorded entry) → reply ≡ reply_to (rules_in old) (state_in old) entry
         → faults (disk_in new) ≡ faults (disk_in old) → Commits tells story faults calls 4 old entry (Ok reply) new
     commits_ok done reply appended sure state replied unfailed = record {
       reply = replied;
@@ -160,8 +161,9 @@ module _ {D : Type 0} (tells : Bool) (story : D → Story) (faults calls : D →
           (appended birth (payloads entries) (journal_before birth entries is)).ok in
           make_store tells story new (rules_in old) birth (entries ++ entry ∷ []) None ruled sure
           (subst (λ ps. IsJournal tells story new.journal birth ps None) (sym (payloads_more entries entry)) journal) handed
-          (in_turn_more (start (rules_in old)) entries entry is.in_turn (comes_next tells story old birth entries entry is may few)) tt whole
-          (ap settle state ∙ settle-does (state_in old) entry ∙ ap (λ s. does s (recorded entry)) is.state ∙ sym (after_more (start (rules_in old)) entries entry));
+          (in_turn_more birth (start (rules_in old)) entries entry is.in_turn (comes_next tells story old birth entries entry is may few)) tt whole
+          (ap settle state ∙ settle-does (birth_in old) (state_in old) entry ∙ ap (λ b. does b (settle (state_in old)) (recorded entry)) is.journal.born
+          ∙ ap (λ s. does birth s (recorded entry)) is.state ∙ sym (after_more birth (start (rules_in old)) entries entry));
       stops = stops_appended (Ok done) appended;
       unfailed = unfailed;
       failed = tt;
@@ -187,7 +189,7 @@ module _ {D : Type 0} (tells : Bool) (story : D → Story) (faults calls : D →
           (in_doubt birth entries doubt
           (subst (λ b. IsJournal tells story new.journal birth (payloads entries) (if b then Some (reserved old.journal) else None)) is_doubt
           (appended birth (payloads entries) (journal_before birth entries is)).failed))
-          handed is.in_turn (next_in_doubt doubt entries (comes_next tells story old birth entries entry is may few)) whole (ap settle state ∙ is.state));
+          handed is.in_turn (next_in_doubt birth doubt entries (comes_next tells story old birth entries entry is may few)) whole (ap settle state ∙ is.state));
       stops = stops_appended (failed_as _ failed) appended;
       unfailed = tt;
       failed = rose;
@@ -204,7 +206,7 @@ module _ {D : Type 0} (tells : Bool) (story : D → Story) (faults calls : D →
         in_doubt birth entries true is = subst (λ octets. IsJournal tells story new.journal birth (payloads entries) (Some octets)) is_reserved is
         in_doubt birth entries false is = is
 
-        next_in_doubt : (b : Bool) (entries : List Recorded) → ComesNext (state_of (rules_in old) entries) (entry_octets entry) entry
-            → UnsureComesNext (rules_in old) entries (if b then Some entry else None)
-        next_in_doubt true entries next = next
-        next_in_doubt false entries next = tt
+        next_in_doubt : (birth : ℕ) (b : Bool) (entries : List Recorded) → ComesNext (state_of birth (rules_in old) entries) (entry_octets entry) entry
+            → UnsureComesNext birth (rules_in old) entries (if b then Some entry else None)
+        next_in_doubt birth true entries next = next
+        next_in_doubt birth false entries next = tt

@@ -16,7 +16,7 @@ use Rattle.store_disk.specs.Story.{Story}
 use Rattle.store_disk.specs.declared.disk.DiskFailed.{DiskFailed}
 use Rattle.gate_store.specs.Deeds.{Performs}
 use Rattle.gate_store.specs.Reopening.{MayReopenIn}
-use Rattle.gate_store.specs.Store.{IsStore, disk_in, rules_in, state_in, unsure_in}
+use Rattle.gate_store.specs.Store.{IsStore, birth_in, disk_in, rules_in, state_in, unsure_in}
 use Rattle.gate_store.specs.StoreSteps.{Commits, Settles}
 use Rattle.gate_store.specs.declared.store.Store.{Store}
 use Rattle.gate_store.proofs.Committing.{failed_as, surely}
@@ -43,13 +43,14 @@ module _ {D : Type 0} (tells : Bool) (story : D → Story) (faults calls : D →
   }
 
   -- what a stop behind a repair leaves, of the state before it
-  stops_behind : rules_in mid ≡ rules_in old → state_in mid ≡ state_in old → unsure_in mid ≡ None → (image : Areas)
-      → MayReopenIn (rules_in mid) (state_in mid) (unsure_in mid) entry image → MayReopenIn (rules_in old) (state_in old) (unsure_in old) entry image
-  stops_behind ruled state sure image may =
-      let there = subst (λ (u : Option Recorded). MayReopenIn (rules_in old) (state_in old) u entry image) sure
-      (subst (λ (s : State). MayReopenIn (rules_in old) s (unsure_in mid) entry image) state
-      (subst (λ (r : Rules). MayReopenIn r (state_in mid) (unsure_in mid) entry image) ruled may)) in
-      ⊎_elim (λ before. inl (surely (rules_in old) (state_in old) (unsure_in old) image before)) (λ with_it. inr with_it) there
+  stops_behind : birth_in mid ≡ birth_in old → rules_in mid ≡ rules_in old → state_in mid ≡ state_in old → unsure_in mid ≡ None → (image : Areas)
+      → MayReopenIn (birth_in mid) (rules_in mid) (state_in mid) (unsure_in mid) entry image → MayReopenIn (birth_in old) (rules_in old) (state_in old) (unsure_in old) entry image
+  stops_behind born ruled state sure image may =
+      let there = subst (λ (u : Option Recorded). MayReopenIn (birth_in old) (rules_in old) (state_in old) u entry image) sure
+      (subst (λ (s : State). MayReopenIn (birth_in old) (rules_in old) s (unsure_in mid) entry image) state
+      (subst (λ (r : Rules). MayReopenIn (birth_in old) r (state_in mid) (unsure_in mid) entry image) ruled
+      (subst (λ b. MayReopenIn b (rules_in mid) (state_in mid) (unsure_in mid) entry image) born may))) in
+      ⊎_elim (λ before. inl (surely (birth_in old) (rules_in old) (state_in old) (unsure_in old) image before)) (λ with_it. inr with_it) there
 
   -- a fault behind a repair rose
   pub rose_behind : (a b c : ℕ) → b ≡ a → Rose b c → Rose a c
@@ -73,13 +74,14 @@ module _ {D : Type 0} (tells : Bool) (story : D → Story) (faults calls : D →
             (subst (λ (r : Rules). IfOk outcome (λ reply. reply ≡ reply_to r (state_in mid) entry)) ruled commits.reply);
         ruled = commits.ruled ∙ ruled;
         born = commits.born ∙ settles.born;
-        state = commits.state ∙ ap (λ (s : State). if is_ok outcome then does s (recorded entry) else s) state;
+        state = commits.state ∙ ap (λ b. if is_ok outcome then does b (state_in mid) (recorded entry) else state_in mid) settles.born
+            ∙ ap (λ (s : State). if is_ok outcome then does (birth_in old) s (recorded entry) else s) state;
         sure = commits.sure;
         unsure = unsure_behind outcome settles.sure commits.unsure;
         holds = λ birth entries is. commits.holds birth entries (settles.holds birth entries is);
         stops = told_leaves_both tells (story (disk_in old)) (story (disk_in mid)) (story (disk_in new)) _
             (told_leaves_weaker tells (story (disk_in old)) (story (disk_in mid)) _ _ (λ image may. inl may) settles.stops)
-            (told_leaves_weaker tells (story (disk_in mid)) (story (disk_in new)) _ _ (stops_behind ruled state settles.sure) commits.stops);
+            (told_leaves_weaker tells (story (disk_in mid)) (story (disk_in new)) _ _ (stops_behind settles.born ruled state settles.sure) commits.stops);
         unfailed = subst (λ n. OnOk outcome (faults (disk_in new) ≡ n)) settles.unfailed commits.unfailed;
         failed = subst (λ n. OnErr outcome (Rose n (faults (disk_in new)))) settles.unfailed commits.failed;
         kept = let first = settles.kept in let then_ = commits.kept in omega arith;

@@ -1,5 +1,5 @@
 -- Messages that may be handed in may be recorded.
-use Rattle.std.proofs.Common.{ℕ, ◌≤◌, ◌^◌, List, refl, arith}
+use Rattle.std.proofs.Common.{ℕ, ◌≤◌, ◌^◌, List, arith}
 use Rattle.std.proofs.lemmas.Bool.{lt-ltb}
 use Rattle.gate_entries.specs.declared.accept.Accept.{Accept}
 use Rattle.gate_entries.specs.declared.recorded.Recorded.TheVariants as entry
@@ -16,7 +16,6 @@ handed_in store parts time may =
     let accept : Accept = record { time = time; parts = parts } in
     let small : accept_size accept ≤ 16777212 = may.small in
     record {
-      served = refl;
       sound = (may.accept, lt-ltb time (2 ^ 37) may.time_below);
       small = omega (arith, small, length-accept_octets accept);
     }

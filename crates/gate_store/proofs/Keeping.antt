@@ -1,19 +1,20 @@
 -- A store stays open, under its rules, whatever a call did; and a link of one that was opened may come up.
 use Rattle.std.proofs.Common.{◌≡◌, ℕ, zero, suc, ◌<◌, arith, Bool, true, false, List, [], ◌∷◌, ◌++◌, length, map, slice_get, Option, Some, None, Result, Ok, Err, refl, sym, ◌∙◌, ap, subst, inl, inr}
+use Rattle.kn_base.specs.declared.memory.Memory.{Memory}
 use Rattle.gate_entries.specs.declared.passing.Passing.{Passing}
-use Rattle.gate_entries.specs.declared.passing.Passing.TheVariants.{Up, Took}
+use Rattle.gate_entries.specs.declared.passing.Passing.TheVariants.{Up, Took, TookJob}
 use Rattle.gate_entries.specs.declared.recorded.Recorded.{Recorded}
 use Rattle.gate_model.specs.Lawful.{MayPass, is_expired}
-use Rattle.gate_model.specs.Routing.{next}
+use Rattle.gate_model.specs.Routing.{next, next_job}
 use Rattle.gate_model.specs.Settling.{settle}
 use Rattle.gate_model.specs.State.{State}
 use Rattle.gate_model.specs.declared.reply.Refusal.{Refusal}
 use Rattle.gate_model.specs.declared.reply.Reply.{Reply}
 use Rattle.route_rules.specs.declared.rules.Rules.{Rules}
 use Rattle.store_disk.specs.Story.{Story}
-use Rattle.gate_store.specs.Deeds.{Performs, Passes, Takes, TakesNext, TakesMessage, Withholds, given_up, put_behind}
+use Rattle.gate_store.specs.Deeds.{Performs, Passes, Takes, TakesNext, TakesMessage, TakesNextJob, TakesJob, TakesThisJob, Withholds, given_up, put_behind}
 use Rattle.gate_store.specs.Entries.{state_of}
-use Rattle.gate_store.specs.Store.{IsOpen, IsOpened, rules_in, state_in}
+use Rattle.gate_store.specs.Store.{IsOpen, IsOpened, birth_in, rules_in, state_in}
 use Rattle.gate_store.specs.declared.store.Store.{Store}
 use Rattle.gate_store.specs.declared.taken.Taken.{Taken}
 use Rattle.gate_store.specs.declared.taken.Taken.TheVariants as taken
@@ -69,11 +70,26 @@ module _ {D : Type 0} (tells : Bool) (story : D → Story) (faults calls : D →
       → Takes tells story faults calls old link now outcome new → StaysOpen old new
   takes_keeps old new link now outcome held takes = takes_next_keeps old new link now (next (rules_in old) (state_in old) link now) outcome held takes
 
+  takes_this_job_keeps : (old new : Store D) (job : ℕ) (outcome : Result (Option (ℕ × List ℕ × ℕ)) Memory) → IsOpen tells story old
+      → TakesThisJob tells story faults calls old job outcome new → StaysOpen old new
+  takes_this_job_keeps old new job (Ok None) held takes = absurd takes
+  takes_this_job_keeps old new job (Ok (Some taken)) held takes = passes_keeps old new (TookJob job) held takes.3
+  takes_this_job_keeps old new job (Err memory) held takes = same_keeps old new held takes
+
+  takes_that_job_keeps : (old new : Store D) (job : Option ℕ) (outcome : Result (Option (ℕ × List ℕ × ℕ)) Memory) → IsOpen tells story old
+      → TakesJob tells story faults calls old job outcome new → StaysOpen old new
+  takes_that_job_keeps old new None outcome held takes = same_keeps old new held takes.1
+  takes_that_job_keeps old new (Some job) outcome held takes = takes_this_job_keeps old new job outcome held takes
+
+  pub takes_job_keeps : (old new : Store D) (outcome : Result (Option (ℕ × List ℕ × ℕ)) Memory) → IsOpen tells story old
+      → TakesNextJob tells story faults calls old outcome new → StaysOpen old new
+  takes_job_keeps old new outcome held takes = takes_that_job_keeps old new (next_job (state_in old)) outcome held takes
+
   -- a store that was opened is settled
   pub opened_settled : (disk : D) (rules : Rules) (birth : ℕ) (store : Store D) → IsOpened tells story faults calls disk rules birth store
       → settle (state_in store) ≡ state_in store
   opened_settled disk rules birth store is =
-      is.holds.state ∙ ap (λ r. state_of r is.entries) is.ruled ∙ sym is.state
+      is.holds.state ∙ ap (λ r. state_of (birth_in store) r is.entries) is.ruled ∙ sym is.state
 
 down_at : (ups : List Bool) (at : ℕ) → at < length ups → slice_get (map (λ (up : Bool). false) ups) at ≡ Some false
 down_at [] at within = absurd (omega (arith, within))

@@ -7,7 +7,7 @@ use Rattle.gate_model.specs.Fold.{does, recorded}
 use Rattle.gate_model.specs.Gate.{IsGate, model_of, rules_of}
 use Rattle.gate_model.specs.Settling.{settle}
 use Rattle.gate_model.specs.declared.gate.Gate.{Gate}
-use Rattle.gate_model.specs.Loading.{gate_in, loaded, IsTaken, IsOutside, ComesNext}
+use Rattle.gate_model.specs.Loading.{gate_in, birth_in, loaded, IsTaken, IsOutside, ComesNext}
 use Rattle.gate_model.specs.State.{State}
 use Rattle.gate_model.specs.declared.loader.Loader.{Loader}
 use Rattle.route_rules.specs.declared.rules.Rules.{Rules}
@@ -42,10 +42,11 @@ handed_none before now handed hands is = let P : Option (List ℕ) → Type 0 = 
 pub record HasLoaded {D : Type 0} (tells : Bool) (story : D → Story) (rules : Rules) (first now : Journal D) (loader : Loader) : Type 0 where
   pub entries : List Recorded
   pub split : left first ≡ payloads entries ++ left now
-  pub in_turn : AreInTurn (start rules) entries
+  pub in_turn : AreInTurn (birth_of first) (start rules) entries
   pub whole : IsGate (gate_in loader)
   pub ruled : rules_of (gate_in loader) ≡ rules
-  pub state : loaded loader ≡ state_of rules entries
+  pub state : loaded loader ≡ state_of (birth_of first) rules entries
+  pub birth : birth_in loader ≡ birth_of first
   pub journal : IsJournal tells story now (birth_of first) (left first) None
   pub disk : disk_of now ≡ disk_of first
   pub area : area_of now ≡ area_of first
@@ -54,14 +55,15 @@ pub record HasLoaded {D : Type 0} (tells : Bool) (story : D → Story) (rules : 
 module _ {D : Type 0} (tells : Bool) (story : D → Story) (rules : Rules) (first : Journal D) where
   -- before the first
   pub HasLoaded-nil : (loader : Loader) → IsJournal tells story first (birth_of first) (left first) None → next_gate first ≡ 16 → IsGate (gate_in loader)
-      → rules_of (gate_in loader) ≡ rules → loaded loader ≡ start rules → HasLoaded tells story rules first first loader
-  HasLoaded-nil loader is gate whole ruled none = record {
+      → rules_of (gate_in loader) ≡ rules → loaded loader ≡ start rules → birth_in loader ≡ birth_of first → HasLoaded tells story rules first first loader
+  HasLoaded-nil loader is gate whole ruled none born = record {
     entries = [];
     split = refl;
     in_turn = tt;
     whole = whole;
     ruled = ruled;
     state = none;
+    birth = born;
     journal = is;
     disk = refl;
     area = refl;
@@ -72,22 +74,25 @@ module _ {D : Type 0} (tells : Bool) (story : D → Story) (rules : Rules) (firs
   pub HasLoaded-more : (now next : Journal D) (loader later : Loader) (payload : List ℕ) → HasLoaded tells story rules first now loader
       → left now ≡ payload ∷ left next → HoldsSame tells story now next → disk_of next ≡ disk_of now → area_of next ≡ area_of now
       → next_gate next ≡ next_gate now + 5 + length payload
-      → IsTaken payload (loaded loader) (loaded later) → IsGate (gate_in later) → rules_of (gate_in later) ≡ rules_of (gate_in loader)
+      → IsTaken (birth_in loader) payload (loaded loader) (loaded later) → IsGate (gate_in later) → rules_of (gate_in later) ≡ rules_of (gate_in loader)
+      → birth_in later ≡ birth_in loader
       → HasLoaded tells story rules first next later
-  HasLoaded-more now next loader later payload h took same disk area gate taken whole ruled =
+  HasLoaded-more now next loader later payload h took same disk area gate taken whole ruled born =
       let kept = taken.kept in
       let spelled : payload ≡ entry_octets kept = taken.next.spelled in
-      let comes : ComesNext (state_of rules h.entries) (entry_octets kept) kept =
+      let comes : ComesNext (state_of (birth_of first) rules h.entries) (entry_octets kept) kept =
       subst (λ (s : State). ComesNext s (entry_octets kept) kept) h.state (subst (λ octets. ComesNext (loaded loader) octets kept) spelled taken.next) in
       record {
         entries = h.entries ++ kept ∷ [];
         split = h.split ∙ ap (λ x. payloads h.entries ++ x) (took ∙ ap (λ p. p ∷ left next) spelled)
             ∙ sym (append_assoc (payloads h.entries) (entry_octets kept ∷ []) (left next))
             ∙ ap (λ x. x ++ left next) (sym (payloads_more h.entries kept));
-        in_turn = in_turn_more (start rules) h.entries kept h.in_turn comes;
+        in_turn = in_turn_more (birth_of first) (start rules) h.entries kept h.in_turn comes;
         whole = whole;
         ruled = ruled ∙ h.ruled;
-        state = taken.holds ∙ ap (λ s. does s (recorded kept)) h.state ∙ sym (after_more (start rules) h.entries kept);
+        state = taken.holds ∙ ap (λ b. does b (loaded loader) (recorded kept)) h.birth ∙ ap (λ s. does (birth_of first) s (recorded kept)) h.state
+            ∙ sym (after_more (birth_of first) (start rules) h.entries kept);
+        birth = born ∙ h.birth;
         journal = same (birth_of first) (left first) None h.journal;
         disk = disk ∙ h.disk;
         area = area ∙ h.area;
@@ -97,7 +102,7 @@ module _ {D : Type 0} (tells : Bool) (story : D → Story) (rules : Rules) (firs
 
   -- where a payload isn't one that may come next, what is left to hand out stops at its gate
   pub stops_at : (now next : Journal D) (loader : Loader) (payload : List ℕ) → HasLoaded tells story rules first now loader
-      → left now ≡ payload ∷ left next → gate_of next ≡ next_gate now → IsOutside payload (loaded loader) → StopsAt rules (left first) (gate_of next)
+      → left now ≡ payload ∷ left next → gate_of next ≡ next_gate now → IsOutside payload (loaded loader) → StopsAt (birth_of first) rules (left first) (gate_of next)
   stops_at now next loader payload h took gate outside = record {
     entries = h.entries;
     payload = payload;
@@ -131,7 +136,7 @@ module _ {D : Type 0} (tells : Bool) (story : D → Story) (rules : Rules) (firs
         handed = all;
         holds = make_store tells story store rules (birth_of first) h.entries None ruled sure held
             (ap (λ (j : Journal D). left j) journal ∙ ended.1) h.in_turn tt (subst (λ (g : Gate). IsGate g) (sym gate) h.whole)
-            (ap (λ (g : Gate). settle (model_of g)) gate ∙ ap settle h.state ∙ settle-state_of rules h.entries);
+            (ap (λ (g : Gate). settle (model_of g)) gate ∙ ap settle h.state ∙ settle-state_of (birth_of first) rules h.entries);
         state = ap (λ (g : Gate). model_of g) gate ∙ h.state;
         sure = sure;
         disk = ap (λ (j : Journal D). disk_of j) journal ∙ disk ∙ h.disk;

@@ -14,7 +14,7 @@ use Rattle.store_journal.specs.Journal.{IsCause, IsLike, IsUnlessDisk, IsUntouch
 use Rattle.store_journal.specs.declared.fault.OpenFault.{OpenFault}
 use Rattle.store_journal.specs.declared.fault.OpenFault.TheVariants as journal_is
 use Rattle.store_journal.specs.declared.journal.Journal.{Journal}
-use Rattle.gate_store.specs.Entries.{payloads, StandsFor, StopsAt, IsForeign}
+use Rattle.gate_store.specs.Entries.{payloads, state_of, StandsFor, StopsAt, IsForeign}
 use Rattle.gate_store.specs.Reopening.{Reopens, ReopensAlike}
 use Rattle.gate_store.specs.Store.{IsStore, IsOpened, IsUnopened, GivesBack, disk_in}
 use Rattle.gate_store.specs.StoreFault.{same_fault}
@@ -44,8 +44,8 @@ born_with unborn birth now area there opens is = opens.0
 born_with (born old stood_in stood) birth now area there opens is = absurd cc
 born_with (foreign stood_in at) birth now area there opens is = absurd cc
 
-none_stops : (rules : Rules) (at : ℕ) (there : List (List ℕ)) → there ≡ [] → StopsAt rules there at → ⊥
-none_stops rules at there none stops = none_split stops.entries (sym none ∙ stops.split)
+none_stops : (birth : ℕ) (rules : Rules) (at : ℕ) (there : List (List ℕ)) → there ≡ [] → StopsAt birth rules there at → ⊥
+none_stops birth rules at there none stops = none_split stops.entries (sym none ∙ stops.split)
   where
     none_split : (entries : List Recorded) → [] ≡ payloads entries ++ stops.payload ∷ stops.rest → ⊥
     none_split [] e = absurd cc
@@ -53,9 +53,9 @@ none_stops rules at there none stops = none_split stops.entries (sym none ∙ st
 
 -- an opening that found a payload that is no entry which may come next found no store
 pub stands_foreign : (rules : Rules) (standing : Standing) (birth now : ℕ) (found area : Area) (there : List (List ℕ)) (at : ℕ)
-    → area ≡ found → StopsAt rules there at → OpensAs standing birth now found there → IsForeign rules standing area at
-stands_foreign rules unborn birth now found area there at is stops opens = none_stops rules at there opens.2 stops
-stands_foreign rules (born old stood_in stood) birth now found area there at is stops opens = (is ∙ opens.1, subst (λ x. StopsAt rules x at) opens.2 stops)
+    → area ≡ found → StopsAt now rules there at → OpensAs standing birth now found there → IsForeign rules standing area at
+stands_foreign rules unborn birth now found area there at is stops opens = none_stops now rules at there opens.2 stops
+stands_foreign rules (born old stood_in stood) birth now found area there at is stops opens = (is ∙ opens.1, subst (λ b. StopsAt b rules stood at) opens.0 (subst (λ x. StopsAt now rules x at) opens.2 stops))
 stands_foreign rules (foreign stood_in at_there) birth now found area there at is stops opens = absurd opens
 
 -- ---- what a stop in an opening leaves
@@ -73,10 +73,10 @@ like_reopens rules before image (inr new) state r =
     let none : r.entries ≡ [] = subst (λ s. StandsFor s r.birth r.entries) new.0 r.stood in
     record {
       birth = new.1;
-      entries = r.entries;
-      stood = subst (λ s. StandsFor s new.1 r.entries) (sym new.3) (refl, ap payloads (sym none));
-      in_turn = r.in_turn;
-      makes = r.makes;
+      entries = [];
+      stood = subst (λ s. StandsFor s new.1 []) (sym new.3) (refl, refl);
+      in_turn = tt;
+      makes = r.makes ∙ ap (state_of r.birth rules) none;
     }
 
 pub opens_alike : (rules : Rules) (old new : Story) → OpensOver old new → ReopensAlike rules old new
@@ -97,7 +97,7 @@ module _ {D : Type 0} (tells : Bool) (story : D → Story) (faults calls : D →
       born = told_weaker tells _ _
           (λ opens is. loads.born ∙ born_with (stands (reads (story disk))) birth (birth_of journal) (area_of journal) (left journal) opens is) stood;
       ruled = loads.ruled;
-      state = loads.state;
+      state = loads.state ∙ ap (λ b. state_of b rules loads.entries) (sym loads.born);
       sure = loads.sure;
       stops = subst (λ (d : D). OnTrue tells (ReopensAlike rules (story disk) (story d))) (sym loads.disk)
           (told_weaker tells _ _ (opens_alike rules (story disk) (story (disk_of journal))) stops);

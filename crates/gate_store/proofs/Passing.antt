@@ -1,7 +1,7 @@
 -- A store on which an entry passes, and from which a link takes a message.
 use Rattle.std.proofs.Common.{◌≡◌, ℕ, Bool, ap, sym, ◌∙◌, subst}
 use Rattle.gate_entries.specs.declared.passing.Passing.{Passing}
-use Rattle.gate_model.specs.Fold.{does, passing}
+use Rattle.gate_model.specs.Fold.{passes}
 use Rattle.gate_model.specs.Gate.{IsGate, model_of, rules_of}
 use Rattle.gate_model.specs.Settling.{settle}
 use Rattle.gate_model.proofs.SettlingLaws.{settle-passes}
@@ -16,7 +16,7 @@ use Rattle.gate_store.proofs.Recording.{holds_on}
 module _ {D : Type 0} (tells : Bool) (story : D → Story) (faults calls : D → ℕ) (old new : Store D) where
   -- what passes changes nothing that is kept
   pub passed : (brief : Passing) → new ≡ record old { gate = new.gate } → IsGate new.gate → rules_of new.gate ≡ rules_in old
-      → model_of new.gate ≡ does (state_in old) (passing brief) → Passes tells story faults calls old brief new
+      → model_of new.gate ≡ passes brief (state_in old) → Passes tells story faults calls old brief new
   passed brief same whole ruled state =
       let journal : new.journal ≡ old.journal = ap (λ (s : Store D). s.journal) same in
       record {

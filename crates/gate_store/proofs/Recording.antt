@@ -29,23 +29,23 @@ use Rattle.gate_store.proofs.Reopened.{may_reopen}
 use Rattle.gate_store.proofs.Told.{told_weaker, told_leaves_none}
 
 -- an entry that is unsure may come next behind entries, under rules
-abbrev pub UnsureComesNext : Rules → List Recorded → Option Recorded → Type 0
-UnsureComesNext rules entries unsure = IfSome unsure (λ kept. ComesNext (state_of rules entries) (entry_octets kept) kept)
+abbrev pub UnsureComesNext : (birth : ℕ) → Rules → List Recorded → Option Recorded → Type 0
+UnsureComesNext birth rules entries unsure = IfSome unsure (λ kept. ComesNext (state_of birth rules entries) (entry_octets kept) kept)
 
 module _ {D : Type 0} (tells : Bool) (story : D → Story) where
   -- a store of these entries, by its parts
   pub make_store : (store : Store D) (rules : Rules) (birth : ℕ) (entries : List Recorded) (unsure : Option Recorded) → rules_in store ≡ rules → unsure_in store ≡ unsure
       → IsJournal tells story store.journal birth (payloads entries) (option_map entry_octets unsure) → IsHandedOut store.journal
-      → AreInTurn (start rules) entries → UnsureComesNext rules entries unsure → IsGate store.gate → settle (state_in store) ≡ state_of rules entries
+      → AreInTurn birth (start rules) entries → UnsureComesNext birth rules entries unsure → IsGate store.gate → settle (state_in store) ≡ state_of birth rules entries
       → IsStore tells story store birth entries
   make_store store rules birth entries unsure ruled doubt journal handed in_turn next whole state = record {
     journal = subst (λ (u : Option Recorded). IsJournal tells story store.journal birth (payloads entries) (option_map entry_octets u)) (sym doubt) journal;
     handed_out = handed;
-    in_turn = subst (λ (r : Rules). AreInTurn (start r) entries) (sym ruled) in_turn;
-    unsure = subst (λ (r : Rules). UnsureComesNext r entries (unsure_in store)) (sym ruled)
-        (subst (λ (u : Option Recorded). UnsureComesNext rules entries u) (sym doubt) next);
+    in_turn = subst (λ (r : Rules). AreInTurn birth (start r) entries) (sym ruled) in_turn;
+    unsure = subst (λ (r : Rules). UnsureComesNext birth r entries (unsure_in store)) (sym ruled)
+        (subst (λ (u : Option Recorded). UnsureComesNext birth rules entries u) (sym doubt) next);
     whole = whole;
-    state = state ∙ ap (λ (r : Rules). state_of r entries) (sym ruled);
+    state = state ∙ ap (λ (r : Rules). state_of birth r entries) (sym ruled);
   }
 
   -- a store whose journal holds what it held, and whose gate holds what it held but for what passes, holds what it held
@@ -59,13 +59,14 @@ module _ {D : Type 0} (tells : Bool) (story : D → Story) where
   -- what areas that may hold a store's payloads reopen to
   pub reopened_by : (store : Store D) (birth : ℕ) (entries : List Recorded) → IsStore tells story store birth entries
       → (image : Areas) → MayHold birth (area_of store.journal) (payloads entries) (option_map entry_octets (unsure_in store)) image
-      → MayReopen (rules_in store) (state_in store) (unsure_in store) image
+      → MayReopen (birth_in store) (rules_in store) (state_in store) (unsure_in store) image
   reopened_by store birth entries is image holds =
-      may_reopen (rules_in store) entries (state_in store) is.in_turn is.state birth (area_of store.journal) image (unsure_in store) is.unsure holds
+      subst (λ b. MayReopen b (rules_in store) (state_in store) (unsure_in store) image) (sym is.journal.born)
+      (may_reopen birth (rules_in store) entries (state_in store) is.in_turn is.state (area_of store.journal) image (unsure_in store) is.unsure holds)
 
   -- whatever a stop now leaves of a store reopens to what is left of its state, or to that with the unsure entry
   pub stops_now : (store : Store D) (birth : ℕ) (entries : List Recorded) → IsStore tells story store birth entries
-      → OnTrue tells ((image : Areas) → IsImage (story (disk_in store)) image → MayReopen (rules_in store) (state_in store) (unsure_in store) image)
+      → OnTrue tells ((image : Areas) → IsImage (story (disk_in store)) image → MayReopen (birth_in store) (rules_in store) (state_in store) (unsure_in store) image)
   stops_now store birth entries is =
       told_weaker tells _ _ (λ may image now. reopened_by store birth entries is image (may image now)) (holds tells story store.journal birth (payloads entries) _ is.journal)
 
@@ -83,7 +84,7 @@ module _ {D : Type 0} (tells : Bool) (story : D → Story) (faults calls : D →
       → ((birth : ℕ) (entries : List Recorded) → IsStore tells story old birth entries → IsStore tells story new birth entries)
       → IsOpen tells story old → Performs tells story faults calls old kept (Err why) new
   unmoved old new kept why other reason ruled born state unsure disk holds is_open =
-      let none = told_leaves_none tells (story (disk_in old)) (MayReopenIn (rules_in old) (state_in old) (unsure_in old) kept)
+      let none = told_leaves_none tells (story (disk_in old)) (MayReopenIn (birth_in old) (rules_in old) (state_in old) (unsure_in old) kept)
       (told_weaker tells _ _ (λ now image is. inl (now image is)) (stops_now tells story old is_open.0 is_open.1 is_open.2)) in
       record {
         reason = reason;
@@ -92,7 +93,7 @@ module _ {D : Type 0} (tells : Bool) (story : D → Story) (faults calls : D →
         state = state;
         unsure = unsure_kept (unsure_in old) (unsure_in new) kept why other unsure;
         holds = λ birth entries is. subst (IsStore tells story new birth) (sym (append-nil entries)) (holds birth entries is);
-        stops = subst (λ (d : D). OnTrue tells (LeavesOnly (story (disk_in old)) (story d) (MayReopenIn (rules_in old) (state_in old) (unsure_in old) kept))) (sym disk) none;
+        stops = subst (λ (d : D). OnTrue tells (LeavesOnly (story (disk_in old)) (story d) (MayReopenIn (birth_in old) (rules_in old) (state_in old) (unsure_in old) kept))) (sym disk) none;
         counted = subst (λ b. CountsFault b (faults (disk_in old)) (faults (disk_in new))) (sym other) (ap faults disk);
         bounded = let same : calls (disk_in new) ≡ calls (disk_in old) = ap calls disk in omega arith;
       }
@@ -125,18 +126,19 @@ module _ {D : Type 0} (tells : Bool) (story : D → Story) (faults calls : D →
       → ((birth : ℕ) (entries : List Recorded) → IsStore tells story old birth entries → IsStore tells story mid birth entries)
       → Performs tells story faults calls mid kept outcome new → Performs tells story faults calls old kept outcome new
   performed_on old mid new kept outcome ruled born state unsure disk held done =
-      let P : Rules → State → Option Recorded → D → Type 0 = λ r s u d. OnTrue tells (LeavesOnly (story d) (story (disk_in new)) (MayReopenIn r s u kept)) in
+      let P : ℕ → Rules → State → Option Recorded → D → Type 0 = λ b r s u d. OnTrue tells (LeavesOnly (story d) (story (disk_in new)) (MayReopenIn b r s u kept)) in
       record {
         reason = subst (λ (s : State). IsReason (rules_in old) s kept outcome) state (subst (λ (r : Rules). IsReason r (state_in mid) kept outcome) ruled done.reason);
         ruled = done.ruled ∙ ruled;
         born = done.born ∙ born;
-        state = done.state ∙ ap (λ (s : State). state_behind s kept outcome) state;
+        state = done.state ∙ ap (λ b. state_behind b (state_in mid) kept outcome) born ∙ ap (λ (s : State). state_behind (birth_in old) s kept outcome) state;
         unsure = subst (λ (u : Option Recorded). LeavesUnsure u kept outcome (unsure_in new)) unsure done.unsure;
         holds = λ birth entries is. done.holds birth entries (held birth entries is);
-        stops = subst (λ (d : D). P (rules_in old) (state_in old) (unsure_in old) d) disk
-            (subst (λ (u : Option Recorded). P (rules_in old) (state_in old) u (disk_in mid)) unsure
-            (subst (λ (s : State). P (rules_in old) s (unsure_in mid) (disk_in mid)) state
-            (subst (λ (r : Rules). P r (state_in mid) (unsure_in mid) (disk_in mid)) ruled done.stops)));
+        stops = subst (λ (d : D). P (birth_in old) (rules_in old) (state_in old) (unsure_in old) d) disk
+            (subst (λ (u : Option Recorded). P (birth_in old) (rules_in old) (state_in old) u (disk_in mid)) unsure
+            (subst (λ (s : State). P (birth_in old) (rules_in old) s (unsure_in mid) (disk_in mid)) state
+            (subst (λ (r : Rules). P (birth_in old) r (state_in mid) (unsure_in mid) (disk_in mid)) ruled
+            (subst (λ b. P b (rules_in mid) (state_in mid) (unsure_in mid) (disk_in mid)) born done.stops))));
         counted = subst (λ (d : D). CountsFault (is_by_disk outcome) (faults d) (faults (disk_in new))) disk done.counted;
         bounded = subst (λ (d : D). calls (disk_in new) ≤ calls d + 6) disk done.bounded;
       }

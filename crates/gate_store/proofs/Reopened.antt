@@ -18,13 +18,13 @@ use Rattle.gate_store.specs.Reopening.{ReopensTo, MayReopen, MayReopenIn}
 use Rattle.gate_store.proofs.Turns.{after_more, in_turn_more, payloads_more}
 
 -- what is kept does to what is left of a state what it does to the state
-pub settle-does : (state : State) (kept : Recorded) → settle (does state (recorded kept)) ≡ does (settle state) (recorded kept)
-settle-does state kept = ap counts_entry (settle-keeps state kept)
+pub settle-does : (birth : ℕ) (state : State) (kept : Recorded) → settle (does birth state (recorded kept)) ≡ does birth (settle state) (recorded kept)
+settle-does birth state kept = ap counts_entry (settle-keeps birth state kept)
 
 module _
-    (rules : Rules) (entries : List Recorded) (state : State)
-    (in_turn : AreInTurn (start rules) entries) (settled : settle state ≡ state_of rules entries)
-    (birth : ℕ) (area : Area) (areas : Areas) where
+    (birth : ℕ) (rules : Rules) (entries : List Recorded) (state : State)
+    (in_turn : AreInTurn birth (start rules) entries) (settled : settle state ≡ state_of birth rules entries)
+    (area : Area) (areas : Areas) where
   -- areas that stand for the entries
   pub reopens_to : stands areas ≡ born birth area (payloads entries) → ReopensTo rules state areas
   reopens_to stood = record {
@@ -36,23 +36,23 @@ module _
   }
 
   -- and for one more, which may come next
-  pub reopens_with : (kept : Recorded) → ComesNext (state_of rules entries) (entry_octets kept) kept
-      → stands areas ≡ born birth area (payloads entries ++ entry_octets kept ∷ []) → ReopensTo rules (does state (recorded kept)) areas
+  pub reopens_with : (kept : Recorded) → ComesNext (state_of birth rules entries) (entry_octets kept) kept
+      → stands areas ≡ born birth area (payloads entries ++ entry_octets kept ∷ []) → ReopensTo rules (does birth state (recorded kept)) areas
   reopens_with kept next stood = record {
     birth = birth;
     entries = entries ++ kept ∷ [];
     stood = subst (λ s. StandsFor s birth (entries ++ kept ∷ [])) (sym stood) (refl, sym (payloads_more entries kept));
-    in_turn = in_turn_more (start rules) entries kept in_turn next;
-    makes = settle-does state kept ∙ ap (λ s. does s (recorded kept)) settled ∙ sym (after_more (start rules) entries kept);
+    in_turn = in_turn_more birth (start rules) entries kept in_turn next;
+    makes = settle-does birth state kept ∙ ap (λ s. does birth s (recorded kept)) settled ∙ sym (after_more birth (start rules) entries kept);
   }
 
   -- areas that may hold what is unsure
-  pub may_reopen : (unsure : Option Recorded) → IfSome unsure (λ kept. ComesNext (state_of rules entries) (entry_octets kept) kept)
-      → MayHold birth area (payloads entries) (option_map entry_octets unsure) areas → MayReopen rules state unsure areas
+  pub may_reopen : (unsure : Option Recorded) → IfSome unsure (λ kept. ComesNext (state_of birth rules entries) (entry_octets kept) kept)
+      → MayHold birth area (payloads entries) (option_map entry_octets unsure) areas → MayReopen birth rules state unsure areas
   may_reopen None next holds = reopens_to holds
   may_reopen (Some kept) next holds = ⊎_elim (λ before. inl (reopens_to before)) (λ with_it. inr (reopens_with kept next with_it)) holds
 
   -- areas that may hold the entry of a call, where nothing was unsure
-  pub may_reopen_in : (kept : Recorded) → ComesNext (state_of rules entries) (entry_octets kept) kept
-      → MayHold birth area (payloads entries) (Some (entry_octets kept)) areas → MayReopenIn rules state None kept areas
+  pub may_reopen_in : (kept : Recorded) → ComesNext (state_of birth rules entries) (entry_octets kept) kept
+      → MayHold birth area (payloads entries) (Some (entry_octets kept)) areas → MayReopenIn birth rules state None kept areas
   may_reopen_in kept next holds = ⊎_elim (λ before. inl (reopens_to before)) (λ with_it. inr (reopens_with kept next with_it)) holds

@@ -11,16 +11,16 @@ use Rattle.gate_model.specs.State.{State}
 use Rattle.gate_store.specs.Entries.{payloads, AreInTurn}
 
 -- the state behind one entry more
-pub after_more : (state : State) (entries : List Recorded) (kept : Recorded)
-    → after state (map recorded (entries ++ kept ∷ [])) ≡ does (after state (map recorded entries)) (recorded kept)
-after_more state entries kept =
-    ap (after state) (map-append recorded entries (kept ∷ [])) ∙ fold-append does state (map recorded entries) (recorded kept ∷ [])
+pub after_more : (birth : ℕ) (state : State) (entries : List Recorded) (kept : Recorded)
+    → after birth state (map recorded (entries ++ kept ∷ [])) ≡ does birth (after birth state (map recorded entries)) (recorded kept)
+after_more birth state entries kept =
+    ap (after birth state) (map-append recorded entries (kept ∷ [])) ∙ fold-append (does birth) state (map recorded entries) (recorded kept ∷ [])
 
 -- one more, in its turn
-pub in_turn_more : (state : State) (entries : List Recorded) (kept : Recorded) → AreInTurn state entries
-    → ComesNext (after state (map recorded entries)) (entry_octets kept) kept → AreInTurn state (entries ++ kept ∷ [])
-in_turn_more state [] kept turn next = (next, tt)
-in_turn_more state (first ∷ entries) kept turn next = (turn.0, in_turn_more (does state (recorded first)) entries kept turn.1 next)
+pub in_turn_more : (birth : ℕ) (state : State) (entries : List Recorded) (kept : Recorded) → AreInTurn birth state entries
+    → ComesNext (after birth state (map recorded entries)) (entry_octets kept) kept → AreInTurn birth state (entries ++ kept ∷ [])
+in_turn_more birth state [] kept turn next = (next, tt)
+in_turn_more birth state (first ∷ entries) kept turn next = (turn.0, in_turn_more birth (does birth state (recorded first)) entries kept turn.1 next)
 
 pub payloads_more : (entries : List Recorded) (kept : Recorded) → payloads (entries ++ kept ∷ []) ≡ payloads entries ++ entry_octets kept ∷ []
 payloads_more entries kept = map-append entry_octets entries (kept ∷ [])
@@ -31,17 +31,17 @@ one_kept state a b first second same =
     (one_entry a b [] [] first.sound.0 second.sound.0 (append-nil (entry_octets a) ∙ same ∙ sym (append-nil (entry_octets b)))).0
 
 -- where a payload behind entries in their turn isn't one that may come next, the payloads are no entries in their turn
-pub none_in_turn : (state : State) (entries : List Recorded) (payload : List ℕ) (rest : List (List ℕ)) → AreInTurn state entries
-    → IsOutside payload (after state (map recorded entries))
-    → (others : List Recorded) → AreInTurn state others → payloads entries ++ payload ∷ rest ≡ payloads others → ⊥
-none_in_turn state [] payload rest turn outside [] other same = absurd cc
-none_in_turn state [] payload rest turn outside (next ∷ others) other same =
+pub none_in_turn : (birth : ℕ) (state : State) (entries : List Recorded) (payload : List ℕ) (rest : List (List ℕ)) → AreInTurn birth state entries
+    → IsOutside payload (after birth state (map recorded entries))
+    → (others : List Recorded) → AreInTurn birth state others → payloads entries ++ payload ∷ rest ≡ payloads others → ⊥
+none_in_turn birth state [] payload rest turn outside [] other same = absurd cc
+none_in_turn birth state [] payload rest turn outside (next ∷ others) other same =
     let is : payload ≡ entry_octets next = cc in
     outside next (subst (λ octets. ComesNext state octets next) (sym is) other.0)
-none_in_turn state (first ∷ entries) payload rest turn outside [] other same = absurd cc
-none_in_turn state (first ∷ entries) payload rest turn outside (next ∷ others) other same =
+none_in_turn birth state (first ∷ entries) payload rest turn outside [] other same = absurd cc
+none_in_turn birth state (first ∷ entries) payload rest turn outside (next ∷ others) other same =
     let octets : entry_octets first ≡ entry_octets next = cc in
     let behind : payloads entries ++ payload ∷ rest ≡ payloads others = cc in
     let one : first ≡ next = one_kept state first next turn.0 other.0 octets in
-    none_in_turn (does state (recorded first)) entries payload rest turn.1 outside others
-    (subst (λ kept. AreInTurn (does state (recorded kept)) others) (sym one) other.1) behind
+    none_in_turn birth (does birth state (recorded first)) entries payload rest turn.1 outside others
+    (subst (λ kept. AreInTurn birth (does birth state (recorded kept)) others) (sym one) other.1) behind

@@ -3,17 +3,18 @@ use Rattle.std.specs.Prelude.{◌≡◌, ◌⊎◌, ℕ, ◌≤◌, ◌+◌, Boo
 use Rattle.std.specs.Bool.{OnTrue}
 use Rattle.std.proofs.Common.{subst}
 use Rattle.kn_base.specs.Count.{Rose}
+use Rattle.kn_base.specs.declared.memory.Memory.{Memory as WantOfMemory}
 use Rattle.gate_entries.specs.declared.cause.Cause.TheVariants.{Expired}
 use Rattle.gate_entries.specs.declared.passing.Passing.{Passing}
-use Rattle.gate_entries.specs.declared.passing.Passing.TheVariants.{Took}
+use Rattle.gate_entries.specs.declared.passing.Passing.TheVariants.{Took, TookJob}
 use Rattle.gate_entries.specs.declared.recorded.Recorded.{Recorded}
 use Rattle.gate_entries.specs.declared.recorded.Recorded.TheVariants as entry
 use Rattle.gate_model.specs.Acceptor.{Deed}
-use Rattle.gate_model.specs.Fold.{does, recorded, passing, sms_of}
-use Rattle.gate_model.specs.Gate.{id_of}
+use Rattle.gate_model.specs.Fold.{does, passes, recorded, sms_of}
+use Rattle.gate_model.specs.Gate.{id_of, url_of, returns_of}
 use Rattle.gate_model.specs.Lawful.{refusal, is_expired}
 use Rattle.gate_model.specs.Replies.{reply_to}
-use Rattle.gate_model.specs.Routing.{next}
+use Rattle.gate_model.specs.Routing.{next, next_job}
 use Rattle.gate_model.specs.State.{State}
 use Rattle.gate_model.specs.declared.reply.Refusal.{Refusal}
 use Rattle.gate_model.specs.declared.reply.Refusal.TheVariants.{NoRoute, Full, Disk, Memory}
@@ -65,14 +66,14 @@ done_of [] = []
 done_of (deed ∷ deeds) = entries_of deed ++ done_of deeds
 
 -- what an entry does, where its outcome is a reply
-abbrev pub state_behind : State → Recorded → Result Reply Refusal → State
-state_behind state kept outcome = if is_ok outcome then does state (recorded kept) else state
+abbrev pub state_behind : (birth : ℕ) → State → Recorded → Result Reply Refusal → State
+state_behind birth state kept outcome = if is_ok outcome then does birth state (recorded kept) else state
 
 -- each outcome has its reason in the state before it
-abbrev pub AreReasoned : Rules → State → List Deed → Type 0
-AreReasoned rules state [] = ⊤
-AreReasoned rules state (deed ∷ deeds) =
-    IsReason rules state (entry_of deed) deed.outcome × AreReasoned rules (state_behind state (entry_of deed) deed.outcome) deeds
+abbrev pub AreReasoned : (birth : ℕ) → Rules → State → List Deed → Type 0
+AreReasoned birth rules state [] = ⊤
+AreReasoned birth rules state (deed ∷ deeds) =
+    IsReason rules state (entry_of deed) deed.outcome × AreReasoned birth rules (state_behind birth state (entry_of deed) deed.outcome) deeds
 
 -- where the disk failed, its count of faults rose, and else it stands still
 abbrev pub CountsFault : Bool → ℕ → ℕ → Type 0
@@ -98,11 +99,11 @@ module _ {D : Type 0} (tells : Bool) (story : D → Story) (faults calls : D →
     pub reason : IsReason (rules_in old) (state_in old) kept outcome
     pub ruled : rules_in new ≡ rules_in old
     pub born : birth_in new ≡ birth_in old
-    pub state : state_in new ≡ state_behind (state_in old) kept outcome
+    pub state : state_in new ≡ state_behind (birth_in old) (state_in old) kept outcome
     pub unsure : LeavesUnsure (unsure_in old) kept outcome (unsure_in new)
     pub holds : (birth : ℕ) (entries : List Recorded) → IsStore tells story old birth entries
         → IsStore tells story new birth (entries ++ put_behind kept outcome)
-    pub stops : OnTrue tells (LeavesOnly (story (disk_in old)) (story (disk_in new)) (MayReopenIn (rules_in old) (state_in old) (unsure_in old) kept))
+    pub stops : OnTrue tells (LeavesOnly (story (disk_in old)) (story (disk_in new)) (MayReopenIn (birth_in old) (rules_in old) (state_in old) (unsure_in old) kept))
     pub counted : CountsFault (is_by_disk outcome) (faults (disk_in old)) (faults (disk_in new))
     pub bounded : calls (disk_in new) ≤ calls (disk_in old) + 6
 
@@ -124,7 +125,7 @@ module _ {D : Type 0} (tells : Bool) (story : D → Story) (faults calls : D →
   pub record Passes (old : Store D) (brief : Passing) (new : Store D) : Type 0 where
     pub ruled : rules_in new ≡ rules_in old
     pub born : birth_in new ≡ birth_in old
-    pub state : state_in new ≡ does (state_in old) (passing brief)
+    pub state : state_in new ≡ passes brief (state_in old)
     pub unsure : unsure_in new ≡ unsure_in old
     pub disk : disk_in new ≡ disk_in old
     pub holds : (birth : ℕ) (entries : List Recorded) → IsStore tells story old birth entries → IsStore tells story new birth entries
@@ -159,3 +160,21 @@ module _ {D : Type 0} (tells : Bool) (story : D → Story) (faults calls : D →
 
   abbrev pub Takes : Store D → (link now : ℕ) → Result (Option Taken) Refusal → Store D → Type 0
   Takes old link now outcome new = TakesNext old link now (next (rules_in old) (state_in old) link now) outcome new
+
+  -- ---- the next job
+
+  -- What a store answers to whoever asks for the next job, which is this one: it is taken, and its URL is handed out, with how often it was
+  -- given back; or memory was wanting, and nothing has changed.
+  abbrev pub TakesThisJob : Store D → (job : ℕ) → Result (Option (ℕ × List ℕ × ℕ)) WantOfMemory → Store D → Type 0
+  TakesThisJob old job (Ok None) new = ⊥
+  TakesThisJob old job (Ok (Some taken)) new =
+      (taken.0 ≡ job) × (Some taken.1 ≡ url_of job (state_in old)) × (taken.2 ≡ returns_of job (state_in old)) × Passes old (TookJob job) new
+  TakesThisJob old job (Err memory) new = new ≡ old
+
+  -- what a store answers to whoever asks for the next job: nothing exactly where there is none
+  abbrev pub TakesJob : Store D → Option ℕ → Result (Option (ℕ × List ℕ × ℕ)) WantOfMemory → Store D → Type 0
+  TakesJob old None outcome new = (outcome ≡ Ok None) × (new ≡ old)
+  TakesJob old (Some job) outcome new = TakesThisJob old job outcome new
+
+  abbrev pub TakesNextJob : Store D → Result (Option (ℕ × List ℕ × ℕ)) WantOfMemory → Store D → Type 0
+  TakesNextJob old outcome new = TakesJob old (next_job (state_in old)) outcome new

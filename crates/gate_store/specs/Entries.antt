@@ -17,14 +17,14 @@ payloads entries = map entry_octets entries
 abbrev pub start : Rules → State
 start rules = empty (length rules.links)
 
--- the state that entries make of it
-abbrev pub state_of : Rules → List Recorded → State
-state_of rules entries = after (start rules) (map recorded entries)
+-- the state that entries make of it, in the store of this birth
+abbrev pub state_of : (birth : ℕ) → Rules → List Recorded → State
+state_of birth rules entries = after birth (start rules) (map recorded entries)
 
 -- each entry is one that may come next in the state that those before it left
-abbrev pub AreInTurn : State → List Recorded → Type 0
-AreInTurn state [] = ⊤
-AreInTurn state (kept ∷ entries) = ComesNext state (entry_octets kept) kept × AreInTurn (does state (recorded kept)) entries
+abbrev pub AreInTurn : (birth : ℕ) → State → List Recorded → Type 0
+AreInTurn birth state [] = ⊤
+AreInTurn birth state (kept ∷ entries) = ComesNext state (entry_octets kept) kept × AreInTurn birth (does birth state (recorded kept)) entries
 
 -- areas that stand so are the store of this birth with these entries; one that isn't born has none
 abbrev pub StandsFor : Standing → ℕ → List Recorded → Type 0
@@ -33,18 +33,18 @@ StandsFor (born birth_there area there) birth entries = (birth_there ≡ birth) 
 StandsFor (foreign area at) birth entries = ⊥
 
 -- Behind entries in their turn stands a payload that is none which may come next. Its gate is the first place that doesn't fit.
-pub record StopsAt (rules : Rules) (there : List (List ℕ)) (at : ℕ) : Type 0 where
+pub record StopsAt (birth : ℕ) (rules : Rules) (there : List (List ℕ)) (at : ℕ) : Type 0 where
   pub entries : List Recorded
   pub payload : List ℕ
   pub rest : List (List ℕ)
   pub split : there ≡ payloads entries ++ payload ∷ rest
-  pub in_turn : AreInTurn (start rules) entries
-  pub outside : IsOutside payload (state_of rules entries)
+  pub in_turn : AreInTurn birth (start rules) entries
+  pub outside : IsOutside payload (state_of birth rules entries)
   pub place : at ≡ gate_place (payloads entries)
 
 -- areas that stand so are no store, from this place of this area on: it is outside a journal's grammar, or the gate of a payload that is no
 -- entry which may come next
 abbrev pub IsForeign : Rules → Standing → Area → ℕ → Type 0
 IsForeign rules unborn area at = ⊥
-IsForeign rules (born birth area_there there) area at = (area ≡ area_there) × StopsAt rules there at
+IsForeign rules (born birth area_there there) area at = (area ≡ area_there) × StopsAt birth rules there at
 IsForeign rules (foreign area_there at_there) area at = (area ≡ area_there) × (at ≡ at_there)

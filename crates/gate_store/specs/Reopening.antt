@@ -15,21 +15,21 @@ pub record Reopens (rules : Rules) (areas : Areas) (state : State) : Type 0 wher
   pub birth : ℕ
   pub entries : List Recorded
   pub stood : StandsFor (stands areas) birth entries
-  pub in_turn : AreInTurn (start rules) entries
-  pub makes : state ≡ state_of rules entries
+  pub in_turn : AreInTurn birth (start rules) entries
+  pub makes : state ≡ state_of birth rules entries
 
 -- areas reopen to what is left of a state when its store is opened again
 abbrev pub ReopensTo : Rules → State → Areas → Type 0
 ReopensTo rules state areas = Reopens rules areas (settle state)
 
 -- they do, or, where an entry is unsure, they reopen to what the state is with it
-abbrev pub MayReopen : Rules → State → Option Recorded → Areas → Type 0
-MayReopen rules state None areas = ReopensTo rules state areas
-MayReopen rules state (Some unsure) areas = ReopensTo rules state areas ⊎ ReopensTo rules (does state (recorded unsure)) areas
+abbrev pub MayReopen : (birth : ℕ) → Rules → State → Option Recorded → Areas → Type 0
+MayReopen birth rules state None areas = ReopensTo rules state areas
+MayReopen birth rules state (Some unsure) areas = ReopensTo rules state areas ⊎ ReopensTo rules (does birth state (recorded unsure)) areas
 
 -- a stop in a call that records an entry leaves what one before it left, or the state with the entry: never that with both
-abbrev pub MayReopenIn : Rules → State → Option Recorded → Recorded → Areas → Type 0
-MayReopenIn rules state unsure kept areas = MayReopen rules state unsure areas ⊎ ReopensTo rules (does state (recorded kept)) areas
+abbrev pub MayReopenIn : (birth : ℕ) → Rules → State → Option Recorded → Recorded → Areas → Type 0
+MayReopenIn birth rules state unsure kept areas = MayReopen birth rules state unsure areas ⊎ ReopensTo rules (does birth state (recorded kept)) areas
 
 -- A stop in an opening leaves areas that reopen to what areas reopen to which a stop before it left.
 abbrev pub ReopensAlike : Rules → Story → Story → Type 0

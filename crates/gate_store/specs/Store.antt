@@ -43,10 +43,10 @@ module _ {D : Type 0} where
   pub record IsStore (tells : Bool) (story : D → Story) (store : Store D) (birth : ℕ) (entries : List Recorded) : Type 0 where
     pub journal : IsJournal tells story store.journal birth (payloads entries) (option_map entry_octets store.unsure)
     pub handed_out : IsHandedOut store.journal
-    pub in_turn : AreInTurn (start (rules_in store)) entries
-    pub unsure : IfSome store.unsure (λ kept. ComesNext (state_of (rules_in store) entries) (entry_octets kept) kept)
+    pub in_turn : AreInTurn birth (start (rules_in store)) entries
+    pub unsure : IfSome store.unsure (λ kept. ComesNext (state_of birth (rules_in store) entries) (entry_octets kept) kept)
     pub whole : IsGate store.gate
-    pub state : settle (state_in store) ≡ state_of (rules_in store) entries
+    pub state : settle (state_in store) ≡ state_of birth (rules_in store) entries
 
   -- the store holds some entries
   abbrev pub IsOpen : Bool → (D → Story) → Store D → Type 0
@@ -60,7 +60,7 @@ module _ {D : Type 0} where
     pub stood : OnTrue tells (StandsFor (stands (reads (story disk))) (birth_in store) entries)
     pub born : OnTrue tells (stands (reads (story disk)) ≡ unborn → birth_in store ≡ birth)
     pub ruled : rules_in store ≡ rules
-    pub state : state_in store ≡ state_of rules entries
+    pub state : state_in store ≡ state_of (birth_in store) rules entries
     pub sure : unsure_in store ≡ None
     pub stops : OnTrue tells (ReopensAlike rules (story disk) (story (disk_in store)))
     pub unfailed : faults (disk_in store) ≡ faults disk

@@ -1,12 +1,11 @@
 -- The steps of a store: loading it, and recording an entry. No public clause but the premise of `perform` cites these.
-use Rattle.std.specs.Prelude.{◌≡◌, ◌⊎◌, ℕ, ◌≤◌, ◌+◌, Bool, IsTrue, List, [], ◌∷◌, ◌++◌, length, Some, None, Result, OnOk, OnErr, IfOk, is_ok, if◌then◌else◌}
+use Rattle.std.specs.Prelude.{◌≡◌, ◌⊎◌, ℕ, ◌≤◌, ◌+◌, Bool, List, [], ◌∷◌, ◌++◌, length, Some, None, Result, OnOk, OnErr, IfOk, is_ok, if◌then◌else◌}
 use Rattle.std.specs.Bool.{OnTrue}
 use Rattle.kn_base.specs.Count.{Rose}
 use Rattle.gate_entries.specs.declared.recorded.Recorded.{Recorded}
 use Rattle.gate_entries.specs.Entry.{entry_octets}
 use Rattle.gate_model.specs.Fold.{does, recorded}
 use Rattle.gate_model.specs.Lawful.{IsSound}
-use Rattle.gate_model.specs.Loading.{is_served}
 use Rattle.gate_model.specs.Replies.{reply_to}
 use Rattle.gate_model.specs.declared.reply.Reply.{Reply}
 use Rattle.route_rules.specs.declared.rules.Rules.{Rules}
@@ -25,9 +24,8 @@ use Rattle.gate_store.specs.declared.store_fault.StoreFault.TheVariants.{Foreign
 abbrev pub most_payload : ℕ
 most_payload = 16777216
 
--- an entry that a store may record: of a kind that it keeps as yet, sound in its state, and of a size that a journal can hold
+-- an entry that a store may record: sound in its state, and of a size that a journal can hold
 pub record MayRecord {D : Type 0} (store : Store D) (kept : Recorded) : Type 0 where
-  pub served : IsTrue (is_served kept)
   pub sound : IsSound (state_in store) kept
   pub small : length (entry_octets kept) ≤ most_payload
 
@@ -39,13 +37,13 @@ module _ {D : Type 0} (tells : Bool) (story : D → Story) where
     pub born : birth_in store ≡ birth_of journal
     pub handed : left journal ≡ payloads entries
     pub holds : IsStore tells story store (birth_of journal) entries
-    pub state : state_in store ≡ state_of rules entries
+    pub state : state_in store ≡ state_of (birth_of journal) rules entries
     pub sure : unsure_in store ≡ None
     pub disk : disk_in store ≡ disk_of journal
 
   -- why what is left of a journal isn't loaded: it stops at a payload that is no entry which may come next, or memory was wanting
   abbrev pub IsNotLoaded : Rules → Journal D → StoreFault → Type 0
-  IsNotLoaded rules journal (Foreign area at) = (area ≡ area_of journal) × StopsAt rules (left journal) at
+  IsNotLoaded rules journal (Foreign area at) = (area ≡ area_of journal) × StopsAt (birth_of journal) rules (left journal) at
   IsNotLoaded rules journal Disk = ⊥
   IsNotLoaded rules journal Memory = Unit {0}
 
@@ -73,7 +71,7 @@ module _ {D : Type 0} (tells : Bool) (story : D → Story) (faults calls : D →
     pub sure : OnOk result (unsure_in new ≡ None)
     pub unsure : OnErr result (unsure_in new ≡ unsure_in old)
     pub holds : (birth : ℕ) (entries : List Recorded) → IsStore tells story old birth entries → IsStore tells story new birth entries
-    pub stops : OnTrue tells (LeavesOnly (story (disk_in old)) (story (disk_in new)) (MayReopen (rules_in old) (state_in old) (unsure_in old)))
+    pub stops : OnTrue tells (LeavesOnly (story (disk_in old)) (story (disk_in new)) (MayReopen (birth_in old) (rules_in old) (state_in old) (unsure_in old)))
     pub unfailed : OnOk result (faults (disk_in new) ≡ faults (disk_in old))
     pub failed : OnErr result (Rose (faults (disk_in old)) (faults (disk_in new)))
     pub kept : faults (disk_in old) ≤ faults (disk_in new)
@@ -84,12 +82,12 @@ module _ {D : Type 0} (tells : Bool) (story : D → Story) (faults calls : D →
     pub reply : IfOk outcome (λ reply. reply ≡ reply_to (rules_in old) (state_in old) entry)
     pub ruled : rules_in new ≡ rules_in old
     pub born : birth_in new ≡ birth_in old
-    pub state : state_in new ≡ (if is_ok outcome then does (state_in old) (recorded entry) else state_in old)
+    pub state : state_in new ≡ (if is_ok outcome then does (birth_in old) (state_in old) (recorded entry) else state_in old)
     pub sure : OnOk outcome (unsure_in new ≡ None)
     pub unsure : OnErr outcome ((unsure_in new ≡ unsure_in old) ⊎ (unsure_in new ≡ None) ⊎ (unsure_in new ≡ Some entry))
     pub holds : (birth : ℕ) (entries : List Recorded) → IsStore tells story old birth entries
         → IsStore tells story new birth (entries ++ put_by entry outcome)
-    pub stops : OnTrue tells (LeavesOnly (story (disk_in old)) (story (disk_in new)) (MayReopenIn (rules_in old) (state_in old) (unsure_in old) entry))
+    pub stops : OnTrue tells (LeavesOnly (story (disk_in old)) (story (disk_in new)) (MayReopenIn (birth_in old) (rules_in old) (state_in old) (unsure_in old) entry))
     pub unfailed : OnOk outcome (faults (disk_in new) ≡ faults (disk_in old))
     pub failed : OnErr outcome (Rose (faults (disk_in old)) (faults (disk_in new)))
     pub kept : faults (disk_in old) ≤ faults (disk_in new)

@@ -6,14 +6,15 @@ ghost use Rattle.gate_entries.specs.Entry.{entry_octets};
 ghost use Rattle.gate_entries.specs.declared.recorded.Recorded.{Recorded};
 ghost use Rattle.gate_model.specs.Fates.{AddUp, HaveFates};
 ghost use Rattle.gate_model.specs.Fold.{recorded};
-ghost use Rattle.gate_model.specs.Gate.{entry_of as prepared, HasRoom, KeepsAll};
+ghost use Rattle.gate_model.specs.Due.{HaveReports};
+ghost use Rattle.gate_model.specs.Gate.{entry_of as prepared, birth_of, HasRoom, KeepsAll};
 ghost use Rattle.gate_model.specs.Lawful.{refusal, most_entries, MayPass};
 ghost use Rattle.gate_model.specs.State.{totals_of};
 ghost use Rattle.store_disk.specs.Disk.{Areas};
 ghost use Rattle.store_disk.specs.Story.{IsImage};
 ghost use Rattle.store_journal.specs.Journal.{reserved};
 ghost use Rattle.gate_store.specs.Deeds.{Performs, Passes};
-ghost use Rattle.gate_store.specs.Entries.{start};
+ghost use Rattle.gate_store.specs.Entries.{start, state_of};
 ghost use Rattle.gate_store.specs.Reopening.{MayReopen, MayStandFor};
 ghost use Rattle.gate_store.specs.Store.{IsStore, IsOpen, IsOpened, GivesBack, disk_in, birth_in, rules_in, state_in, unsure_in};
 ghost use Rattle.gate_store.specs.StoreSteps.{MayRecord, Reserves, Settles, Commits};
@@ -94,13 +95,17 @@ impl<D: Disk> Store<D> {
     }
 
     /// What it counts: of its entries, and of their messages. Each message that was accepted was acknowledged, rejected with a cause, or is
-    /// stored, exactly one of these, and is stored exactly where it waits.
+    /// stored, exactly one of these, and is stored exactly where it waits. Of any front of the entries and those behind it, the reports that are
+    /// awaited are those that were awaited behind the front and that the others left open; and the jobs that are held are those that were held
+    /// there, and the URLs that are due by the others under the next numbers, but those of which one says that they are done with.
     pub fn totals(&self) -> Totals
         ensures totals { result ≡ totals_of (state_in self.now) }
         ensures fates { (birth : ℕ) (entries : List Recorded) → IsStore D.tells D.story self.now birth entries
-            → HaveFates (start (rules_in self.now)) (map recorded entries) }
+            → HaveFates birth (start (rules_in self.now)) (map recorded entries) }
         ensures counted { (birth : ℕ) (entries : List Recorded) → IsStore D.tells D.story self.now birth entries
             → AddUp result }
+        ensures reports { (birth : ℕ) (before later : List Recorded) → IsStore D.tells D.story self.now birth (before ++ later)
+            → HaveReports birth (state_of birth (rules_in self.now) before) later (state_in self.now) }
     {
         self.gate.totals()
     }
@@ -136,7 +141,8 @@ impl<D: Disk> Store<D> {
     // Puts an entry last in the journal, and does it. All memory is taken before the first disk call.
     fn commit(&mut self, ready: Ready) -> Result<Reply, Refusal>
         requires kept { IsOpen D.tells D.story self.old }
-        requires room { HasRoom self.old.gate (prepared ready) }
+        requires room { HasRoom self.old.gate ready }
+        requires born { birth_of ready ≡ birth_in self.old }
         requires may { MayRecord self.old (prepared ready) }
         requires taken { refusal (rules_in self.old) (state_in self.old) (prepared ready) ≡ None }
         ensures { Performs D.tells D.story D.faults D.calls self.old (prepared ready) result self.new }
@@ -181,7 +187,8 @@ impl<D: Disk> Store<D> {
     fn repair_and_append(&mut self, ready: Ready) -> Result<Reply, DiskFailed>
         requires kept { IsOpen D.tells D.story self.old }
         requires reserved { reserved self.old.journal ≡ entry_octets (prepared ready) }
-        requires room { HasRoom self.old.gate (prepared ready) }
+        requires room { HasRoom self.old.gate ready }
+        requires born { birth_of ready ≡ birth_in self.old }
         requires may { MayRecord self.old (prepared ready) }
         requires few { (state_in self.old).entries < most_entries }
         ensures { Commits D.tells D.story D.faults D.calls 6 self.old (prepared ready) result self.new }
@@ -197,7 +204,8 @@ impl<D: Disk> Store<D> {
         requires kept { IsOpen D.tells D.story self.old }
         requires sure { unsure_in self.old ≡ None }
         requires reserved { reserved self.old.journal ≡ entry_octets (prepared ready) }
-        requires room { HasRoom self.old.gate (prepared ready) }
+        requires room { HasRoom self.old.gate ready }
+        requires born { birth_of ready ≡ birth_in self.old }
         requires may { MayRecord self.old (prepared ready) }
         requires few { (state_in self.old).entries < most_entries }
         ensures { Commits D.tells D.story D.faults D.calls 4 self.old (prepared ready) result self.new }
@@ -229,7 +237,7 @@ impl<D: Disk> Store<D> {
         ensures stands { (birth : ℕ) (entries : List Recorded) → IsStore D.tells D.story self birth entries
             → OnTrue D.tells ((image : Areas) → IsImage (D.story result) image → MayStandFor birth entries (unsure_in self) image) }
         ensures stops { (birth : ℕ) (entries : List Recorded) → IsStore D.tells D.story self birth entries
-            → OnTrue D.tells ((image : Areas) → IsImage (D.story result) image → MayReopen (rules_in self) (state_in self) (unsure_in self) image) }
+            → OnTrue D.tells ((image : Areas) → IsImage (D.story result) image → MayReopen (birth_in self) (rules_in self) (state_in self) (unsure_in self) image) }
     {
         let Store {
             alloc: _,

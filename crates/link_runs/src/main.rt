@@ -1,7 +1,8 @@
 //! SMPP as the protocol of a link, by cases that were written out by hand. Each line is a case:
 //!
 //! - `hear OCTETS`: what a frame of a centre says.
-//! - `cut OCTETS`: the same of each front of the octets, once where those beside it are the same.
+//! - `report TLVS | TEXT`: what a report of a centre says that has this text and these optional parameters, with the escapes of `line_cases`.
+//! - `cut OCTETS`: what each front of octets says, once where those beside it are the same.
 //! - `answer OCTETS`, `full OCTETS`: the frame that answers it, well or for want of room.
 //! - `login TAG TYPE`, `keep TAG`: the frame of a login with this type of system, of a question.
 //! - `submit TAG NUMBER NOW RECORD`: the frame of a message.
@@ -35,7 +36,7 @@ impl Cases for LinkCases {
     fn report(&self, alloc: Global, line: &[u8], report: &mut Octets) -> Result<(), Memory> {
         let (kind, text) = cut_at(line, b' ');
         report.extend_from_slice(b"    ")?;
-        if kind == b"hear".as_slice() || kind == b"cut".as_slice() {
+        if kind == b"hear".as_slice() || kind == b"report".as_slice() || kind == b"cut".as_slice() {
             hear::put_case(alloc, kind, text, report)?;
         } else {
             say::put_case(alloc, kind, text, report)?;

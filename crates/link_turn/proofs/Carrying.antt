@@ -18,7 +18,7 @@ use Rattle.link_turn.specs.Back.{held, is_up}
 use Rattle.link_turn.specs.Session.{Talk, IsFresh, IsSession, MayBeRecorded, MayBeCut, deeds_by, heard_by, now_of, terms_of}
 use Rattle.link_turn.specs.SessionSteps.{Stands, StandsIn, StandsOn}
 use Rattle.link_turn.specs.Steps.{Deed, deeds_in}
-use Rattle.link_turn.specs.Turn.{IsOf, IsReading, IsLinkOf, HearsNoReport}
+use Rattle.link_turn.specs.Turn.{IsOf, IsReading, IsLinkOf}
 use Rattle.link_turn.specs.TurnSteps.{Does, MayDo, Wishes, Carries}
 use Rattle.link_turn.specs.declared.given.Given.{Given}
 use Rattle.link_turn.specs.declared.session.Phase.{Phase}
@@ -162,15 +162,15 @@ module _ {C D : Type 0} (tells : Bool) (story : D → Story) (faults calls : D �
   -- ---- what is wished next may be done
 
   pub wishes_on : (tags : ℕ) (next_tag : Option ℕ → ℕ) (holds : ℕ → Type 0) (kind : LinkKind) (stop : Bool) (wish next : Wish) (given : Given) (s after : Session C) (old new : Course)
-      (store later : Store D) (latest now link : ℕ) → Wishes tags next_tag holds kind hears_so refuses said tells story wish s store latest → HearsNoReport hears_so
+      (store later : Store D) (latest now link : ℕ) → Wishes tags next_tag holds kind hears_so refuses said tells story wish s store latest
       → Does tells story faults calls link stop wish given old new store later → link ≡ (terms_of s).link → IsReading now → IsSession tags next_tag holds after → MayBeRecorded next
       → now_of after ≤ now → Law hears_so refuses said s given now next after
       → Wishes tags next_tag holds kind hears_so refuses said tells story next after later now
-  wishes_on tags next_tag holds kind stop wish next given s after old new store later latest now link w none d mine soon sound entry latest_now law =
+  wishes_on tags next_tag holds kind stop wish next given s after old new store later latest now link w d mine soon sound entry latest_now law =
       let core = w.core in
       let terms = w.terms in
       let same : link ≡ terms.link = mine ∙ ap (λ (t : Terms). t.link) (terms_same tells story faults calls hears_so refuses said core terms wish w.talk s w.stands) in
-      let may = may_do hears_so refuses said core terms tells story store wish w.talk s none w.stands w.entry w.in_time w.sound.well.in_time w.opened w.of in
+      let may = may_do hears_so refuses said core terms tells story store wish w.talk s w.stands w.entry w.in_time w.sound.well.in_time w.opened w.of in
       let cd = comes_done tells story faults calls link stop wish given old new store later d in
       let on = law core terms w.talk wish cd.0 w.stands cd.1.may in
       let kept = stays_open tells story faults calls hears_so refuses said core terms link stop wish given old new store later w.opened d in record {

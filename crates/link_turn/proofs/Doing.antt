@@ -34,7 +34,7 @@ use Rattle.link_turn.specs.Due.{Due, nothing, log_in, come_up, acknowledge, reje
 use Rattle.link_turn.specs.Session.{Talk, MayBeRecorded}
 use Rattle.link_turn.specs.SessionSteps.{Records, IsToRecord, Stands, StandsIn}
 use Rattle.link_turn.specs.Talk.{AreReadings, MayLeave}
-use Rattle.link_turn.specs.Turn.{IsOf, IsReading, HearsNoReport}
+use Rattle.link_turn.specs.Turn.{IsOf, IsReading}
 use Rattle.link_turn.specs.TurnSteps.{MayDo}
 use Rattle.link_turn.specs.declared.end_cause.EndCause.TheVariants as end_is
 use Rattle.link_turn.specs.declared.session.Phase.{Phase}
@@ -72,47 +72,6 @@ last_in_time (first ∷ times) time (reading ∷ readings) are all =
 
 -- ---- an entry that is due
 
--- a report is due only behind one
-no_verdict_report : (verdict : Verdict) (message : Option ℕ) (foreign : List ℕ) (kind : Kind) (text : List ℕ)
-    → option_map_or (due_by_verdict verdict) message nothing ≡ report foreign kind text → ⊥
-no_verdict_report verdict None foreign kind text is = let e : nothing ≡ report foreign kind text = is in cc
-no_verdict_report (Good id) (Some message) foreign kind text is = let e : acknowledge message id ≡ report foreign kind text = is in cc
-no_verdict_report (Temporary code) (Some message) foreign kind text is = let e : give_back message ≡ report foreign kind text = is in cc
-no_verdict_report (Permanent code) (Some message) foreign kind text is = let e : reject message code ≡ report foreign kind text = is in cc
-
-no_nack_report : (message : Option ℕ) (foreign : List ℕ) (kind : Kind) (text : List ℕ) → option_map_or give_back message nothing ≡ report foreign kind text → ⊥
-no_nack_report None foreign kind text is = let e : nothing ≡ report foreign kind text = is in cc
-no_nack_report (Some message) foreign kind text is = let e : give_back message ≡ report foreign kind text = is in cc
-
-no_code_report : (code : ℕ) (foreign : List ℕ) (kind : Kind) (text : List ℕ) → due_by_code code ≡ report foreign kind text → ⊥
-no_code_report code foreign kind text is =
-    elim (cases_Bool (code == 0)) [
-      | inl good ↦ let e : come_up ≡ report foreign kind text = sym (rw good) ∙ is in cc
-      | inr bad ↦ let e : over (end_is.LoginRefused code) ≡ report foreign kind text = sym (rw bad) ∙ is in cc
-    ]
-
-no_login_report : (login : Option Asked) (tag code : ℕ) (foreign : List ℕ) (kind : Kind) (text : List ℕ) → due_by_login login tag code ≡ report foreign kind text → ⊥
-no_login_report None tag code foreign kind text is = let e : nothing ≡ report foreign kind text = is in cc
-no_login_report (Some asked) tag code foreign kind text is =
-    elim (cases_Bool (asked.tag == tag)) [
-      | inl same ↦ no_code_report code foreign kind text (sym (rw same) ∙ is)
-      | inr differs ↦ let e : nothing ≡ report foreign kind text = sym (rw differs) ∙ is in cc
-    ]
-
-pub report_heard : (heard : Heard) (before : List Step) (foreign : List ℕ) (kind : Kind) (text : List ℕ) → due_by heard before ≡ report foreign kind text
-    → (tag : ℕ) × (heard ≡ heard_is.Report tag foreign kind text)
-report_heard (heard_is.Report tag foreign' kind' text') before foreign kind text is =
-    let e : report foreign' kind' text' ≡ report foreign kind text = is in (tag, cc)
-report_heard (heard_is.Login tag code) before foreign kind text is = absurd (no_login_report (open_login before) tag code foreign kind text is)
-report_heard (heard_is.Reply tag verdict) before foreign kind text is = absurd (no_verdict_report verdict (message_under tag (in_use before)) foreign kind text is)
-report_heard (heard_is.Message tag sms) before foreign kind text is = absurd (let e : arrive sms ≡ report foreign kind text = is in cc)
-report_heard (heard_is.Keep tag) before foreign kind text is = absurd (let e : say (out_is.KeepReply tag) ≡ report foreign kind text = is in cc)
-report_heard (heard_is.KeepReply tag) before foreign kind text is = absurd (let e : nothing ≡ report foreign kind text = is in cc)
-report_heard (heard_is.Bye tag) before foreign kind text is = absurd (let e : say (out_is.ByeReply tag) ≡ report foreign kind text = is in cc)
-report_heard (heard_is.ByeReply tag) before foreign kind text is = absurd (let e : nothing ≡ report foreign kind text = is in cc)
-report_heard (heard_is.Nack tag code) before foreign kind text is = absurd (no_nack_report (message_under tag (in_use before)) foreign kind text is)
-report_heard (heard_is.Strange tag id) before foreign kind text is = absurd (let e : say (out_is.Nack tag id) ≡ report foreign kind text = is in cc)
-
 -- a message that is leased waits
 leased_held : (state : State) (message : ℕ) → IsLeased state message → is_held message state.waiting ≡ true
 leased_held state message leased = by_value (value_under message state.waiting) leased
@@ -123,9 +82,8 @@ leased_held state message leased = by_value (value_under message state.waiting) 
 
 -- what may be recorded: by the kind of what is due
 may_record_due : {D : Type 0} (store : Store D) (link : ℕ) (smsc : List ℕ) (owed : Due) (time : ℕ) (kept : Recorded) → entry_for link smsc owed time ≡ Some kept → IsEntry kept
-    → (times_of_entry kept ≡ time ∷ [] → IsReading time) → ((message : ℕ) → ended_by kept ≡ Some message → IsLeased (state_in store) message)
-    → ((foreign : List ℕ) (kind : Kind) (text : List ℕ) → owed ≡ report foreign kind text → ⊥) → MayRecord store kept × IsOfLink kept
-may_record_due store link smsc (acknowledge message foreign) time kept is good in_time leased none =
+    → (times_of_entry kept ≡ time ∷ [] → IsReading time) → ((message : ℕ) → ended_by kept ≡ Some message → IsLeased (state_in store) message) → MayRecord store kept × IsOfLink kept
+may_record_due store link smsc (acknowledge message foreign) time kept is good in_time leased =
     let made : Recorded = entry.Acked (record { message = message; smsc = smsc; foreign = foreign; time = time }) in
     let both : Some made ≡ Some kept = is in
     let same : made ≡ kept = cc in
@@ -134,13 +92,12 @@ may_record_due store link smsc (acknowledge message foreign) time kept is good i
     let soon = reading_is time (in_time (ap times_of_entry (sym same))) in
     subst (λ (k : Recorded). MayRecord store k × IsOfLink k) same (
       record {
-        served = refl;
         sound = (good', ap (λ (b : Bool). b && is_time time) there ∙ soon);
         small = omega (arith, entry_bound made good');
       },
       tt,
     )
-may_record_due store link smsc (reject message code) time kept is good in_time leased none =
+may_record_due store link smsc (reject message code) time kept is good in_time leased =
     let made : Recorded = entry.Rejected (record { message = message; smsc = smsc; cause = Centre code; time = time }) in
     let both : Some made ≡ Some kept = is in
     let same : made ≡ kept = cc in
@@ -149,78 +106,48 @@ may_record_due store link smsc (reject message code) time kept is good in_time l
     let soon = reading_is time (in_time (ap times_of_entry (sym same))) in
     subst (λ (k : Recorded). MayRecord store k × IsOfLink k) same (
       record {
-        served = refl;
         sound = (good', ap (λ (b : Bool). b && is_time time) there ∙ soon);
         small = omega (arith, entry_bound made good');
       },
       tt,
     )
-may_record_due store link smsc (report foreign kind text) time kept is good in_time leased none = absurd (none foreign kind text refl)
-may_record_due store link smsc (arrive sms) time kept is good in_time leased none =
+may_record_due store link smsc (report foreign kind text) time kept is good in_time leased =
+    let made : Recorded = entry.Reported (record { smsc = smsc; foreign = foreign; kind = kind; text = text; time = time }) in
+    let both : Some made ≡ Some kept = is in
+    let same : made ≡ kept = cc in
+    let good' : IsEntry made = subst IsEntry (sym same) good in
+    let soon = reading_is time (in_time (ap times_of_entry (sym same))) in
+    subst (λ (k : Recorded). MayRecord store k × IsOfLink k) same (record { sound = (good', soon); small = omega (arith, entry_bound made good') }, tt)
+may_record_due store link smsc (arrive sms) time kept is good in_time leased =
     let made : Recorded = entry.Arrived (record { smsc = smsc; sms = record sms { smsc = smsc; time = time } }) in
     let both : Some made ≡ Some kept = is in
     let same : made ≡ kept = cc in
     let good' : IsEntry made = subst IsEntry (sym same) good in
     subst (λ (k : Recorded). MayRecord store k × IsOfLink k) same (
       record {
-        served = refl;
         sound = (good', refl);
         small = omega (arith, entry_bound made good');
       },
       tt,
     )
-may_record_due store link smsc nothing time kept is good in_time leased none = absurd (let e : None ≡ Some kept = is in cc)
-may_record_due store link smsc log_in time kept is good in_time leased none = absurd (let e : None ≡ Some kept = is in cc)
-may_record_due store link smsc come_up time kept is good in_time leased none = absurd (let e : None ≡ Some kept = is in cc)
-may_record_due store link smsc (give_back message) time kept is good in_time leased none = absurd (let e : None ≡ Some kept = is in cc)
-may_record_due store link smsc (send message sms) time kept is good in_time leased none = absurd (let e : None ≡ Some kept = is in cc)
-may_record_due store link smsc (say out) time kept is good in_time leased none = absurd (let e : None ≡ Some kept = is in cc)
-may_record_due store link smsc (over cause) time kept is good in_time leased none = absurd (let e : None ≡ Some kept = is in cc)
-may_record_due store link smsc left time kept is good in_time leased none = absurd (let e : None ≡ Some kept = is in cc)
+may_record_due store link smsc nothing time kept is good in_time leased = absurd (let e : None ≡ Some kept = is in cc)
+may_record_due store link smsc log_in time kept is good in_time leased = absurd (let e : None ≡ Some kept = is in cc)
+may_record_due store link smsc come_up time kept is good in_time leased = absurd (let e : None ≡ Some kept = is in cc)
+may_record_due store link smsc (give_back message) time kept is good in_time leased = absurd (let e : None ≡ Some kept = is in cc)
+may_record_due store link smsc (send message sms) time kept is good in_time leased = absurd (let e : None ≡ Some kept = is in cc)
+may_record_due store link smsc (say out) time kept is good in_time leased = absurd (let e : None ≡ Some kept = is in cc)
+may_record_due store link smsc (over cause) time kept is good in_time leased = absurd (let e : None ≡ Some kept = is in cc)
+may_record_due store link smsc left time kept is good in_time leased = absurd (let e : None ≡ Some kept = is in cc)
 
 module _ {C : Type 0} (hears_so : List ℕ → Heard → Type 0) (refuses : List ℕ → ℕ → ℕ → Type 0) (said : C → Out → List ℕ) (core : C) (terms : Terms) where
-  newest_heard : (recording : Recording) (steps : List Step) → IsToRecord hears_so refuses said core terms recording steps → (heard : Heard) × (before : List Step) × (steps ≡ hears heard ∷ before)
-  newest_heard (recording_is.End message) (hears heard ∷ before) is = (heard, before, refl)
-  newest_heard (recording_is.End message) [] is = absurd is
-  newest_heard (recording_is.End message) (says out now ∷ before) is = absurd is
-  newest_heard (recording_is.End message) (records kept outcome ∷ before) is = absurd is
-  newest_heard (recording_is.End message) (passes brief ∷ before) is = absurd is
-  newest_heard (recording_is.End message) (takes now outcome ∷ before) is = absurd is
-  newest_heard (recording_is.End message) (leaves brief ∷ before) is = absurd is
-  newest_heard (recording_is.Report tag) (hears heard ∷ before) is = (heard, before, refl)
-  newest_heard (recording_is.Report tag) [] is = absurd is
-  newest_heard (recording_is.Report tag) (says out now ∷ before) is = absurd is
-  newest_heard (recording_is.Report tag) (records kept outcome ∷ before) is = absurd is
-  newest_heard (recording_is.Report tag) (passes brief ∷ before) is = absurd is
-  newest_heard (recording_is.Report tag) (takes now outcome ∷ before) is = absurd is
-  newest_heard (recording_is.Report tag) (leaves brief ∷ before) is = absurd is
-  newest_heard (recording_is.Message tag) (hears heard ∷ before) is = (heard, before, refl)
-  newest_heard (recording_is.Message tag) [] is = absurd is
-  newest_heard (recording_is.Message tag) (says out now ∷ before) is = absurd is
-  newest_heard (recording_is.Message tag) (records kept outcome ∷ before) is = absurd is
-  newest_heard (recording_is.Message tag) (passes brief ∷ before) is = absurd is
-  newest_heard (recording_is.Message tag) (takes now outcome ∷ before) is = absurd is
-  newest_heard (recording_is.Message tag) (leaves brief ∷ before) is = absurd is
-
-  no_report_due : (recording : Recording) (steps : List Step) (octets rest : List ℕ) → HearsNoReport hears_so → IsToRecord hears_so refuses said core terms recording steps
-      → AreFrames hears_so octets (heards_in steps) rest → (foreign : List ℕ) (kind : Kind) (text : List ℕ) → due steps ≡ report foreign kind text → ⊥
-  no_report_due recording steps octets rest none to_record frames foreign kind text is =
-      let n = newest_heard recording steps to_record in
-      let is' : due_by n.0 n.1 ≡ report foreign kind text = subst (λ (ss : List Step). due ss ≡ report foreign kind text) n.2 is in
-      let r = report_heard n.0 n.1 foreign kind text is' in
-      let frames' : AreFrames hears_so octets (heards_in n.1 ++ n.0 ∷ []) rest = subst (λ (ss : List Step). AreFrames hears_so octets (heards_in ss) rest) n.2 frames in
-      let f = frame_of hears_so octets (heards_in n.1) rest n.0 frames' in
-      none f.0 r.0 foreign kind text (subst (hears_so f.0) r.1 f.1)
-
-  pub may_record : {D : Type 0} (store : Store D) (recording : Recording) (kept : Recorded) (talk : Talk) (session : Session C) (up : Bool) → HearsNoReport hears_so
+  pub may_record : {D : Type 0} (store : Store D) (recording : Recording) (kept : Recorded) (talk : Talk) (session : Session C) (up : Bool)
       → Records hears_so refuses said core terms recording kept talk session → IsEntry kept → All IsReading talk.readings
       → IsOf terms.link (held talk.steps) up (state_in store) → MayRecord store kept × IsOfLink kept
-  may_record store recording kept talk session up none r good all of =
+  may_record store recording kept talk session up r good all of =
       may_record_due store terms.link terms.smsc (due talk.steps) r.time kept r.entry good
       (λ times. last_in_time (times_in talk.steps) r.time talk.readings (subst (λ (ts : List ℕ). AreReadings (times_in talk.steps ++ ts) talk.readings) times r.timed) all)
       (λ message ends. held_is_leased terms.link message (held talk.steps) up (state_in store) of
       (subst (λ (o : Option ℕ). IfSome o (λ m. IsAmong m (held talk.steps))) (sym r.ends ∙ ends) r.holds.among))
-      (no_report_due recording talk.steps talk.heard session.kept none r.to_record r.frames)
 
   -- ---- what is to pass
 
@@ -263,26 +190,26 @@ module _ {C : Type 0} (hears_so : List ℕ → Heard → Type 0) (refuses : List
   abbrev May : {D : Type 0} → Store D → Wish → Type 0
   May store wish = MayDo store wish × IsOne wish
 
-  may_in : {D : Type 0} (tells : Bool) (story : D → Story) (store : Store D) (phase : Phase) (wish : Wish) (talk : Talk) (session : Session C) → HearsNoReport hears_so
+  may_in : {D : Type 0} (tells : Bool) (story : D → Story) (store : Store D) (phase : Phase) (wish : Wish) (talk : Talk) (session : Session C)
       → StandsIn hears_so refuses said core terms phase wish talk session → MayBeRecorded wish → All IsReading talk.readings → IsReading session.latest → IsOpen tells story store
       → IsOf terms.link (held talk.steps) (is_up talk.steps) (state_in store) → May store wish
-  may_in tells story store Fresh wish talk session none stands good all soon open_ of = subst (May store) (sym stands.0) (tt, tt)
-  may_in tells story store Listening wish talk session none stands good all soon open_ of = subst (May store) (sym stands.0) (tt, tt)
-  may_in tells story store (phase_is.Saying saying) wish talk session none stands good all soon open_ of = subst (May store) (sym stands.1) (tt, tt)
-  may_in tells story store (phase_is.Recording recording) wish talk session none stands good all soon open_ of =
+  may_in tells story store Fresh wish talk session stands good all soon open_ of = subst (May store) (sym stands.0) (tt, tt)
+  may_in tells story store Listening wish talk session stands good all soon open_ of = subst (May store) (sym stands.0) (tt, tt)
+  may_in tells story store (phase_is.Saying saying) wish talk session stands good all soon open_ of = subst (May store) (sym stands.1) (tt, tt)
+  may_in tells story store (phase_is.Recording recording) wish talk session stands good all soon open_ of =
       subst (May store) (sym stands.1)
-      (may_record store recording stands.0 talk session (is_up talk.steps) none stands.2 (subst MayBeRecorded stands.1 good).0 all of)
-  may_in tells story store ComingUp wish talk session none stands good all soon open_ of =
+      (may_record store recording stands.0 talk session (is_up talk.steps) stands.2 (subst MayBeRecorded stands.1 good).0 all of)
+  may_in tells story store ComingUp wish talk session stands good all soon open_ of =
       subst (May store) (sym stands.0)
       (of.is_up ∙ ap Some (comes_up_down terms talk.steps stands.1.keeps.agrees.each stands.1.due_is), refl)
-  may_in tells story store (GivingBack message) wish talk session none stands good all soon open_ of =
+  may_in tells story store (GivingBack message) wish talk session stands good all soon open_ of =
       subst (May store) (sym stands.0) (may_return store (held talk.steps) (is_up talk.steps) message of stands.1.holds.among, tt)
-  may_in tells story store Taking wish talk session none stands good all soon open_ of = subst (May store) (sym stands.0) (soon, tt)
-  may_in tells story store (Leaving cause one) wish talk session none stands good all soon open_ of =
+  may_in tells story store Taking wish talk session stands good all soon open_ of = subst (May store) (sym stands.0) (soon, tt)
+  may_in tells story store (Leaving cause one) wish talk session stands good all soon open_ of =
       subst (May store) (sym stands.1) (may_leave tells story store stands.0 talk.steps open_ of stands.2.agrees.each.0)
-  may_in tells story store Done wish talk session none stands good all soon open_ of = subst (May store) (sym stands.1) (tt, tt)
+  may_in tells story store Done wish talk session stands good all soon open_ of = subst (May store) (sym stands.1) (tt, tt)
 
-  pub may_do : {D : Type 0} (tells : Bool) (story : D → Story) (store : Store D) (wish : Wish) (talk : Talk) (session : Session C) → HearsNoReport hears_so
+  pub may_do : {D : Type 0} (tells : Bool) (story : D → Story) (store : Store D) (wish : Wish) (talk : Talk) (session : Session C)
       → Stands hears_so refuses said core terms wish talk session → MayBeRecorded wish → All IsReading talk.readings → IsReading session.latest → IsOpen tells story store
       → IsOf terms.link (held talk.steps) (is_up talk.steps) (state_in store) → May store wish
-  may_do tells story store wish talk session none stands good all soon open_ of = may_in tells story store session.phase wish talk session none stands good all soon open_ of
+  may_do tells story store wish talk session stands good all soon open_ of = may_in tells story store session.phase wish talk session stands good all soon open_ of

@@ -1,22 +1,22 @@
 -- What a session has still to do falls with each thing that is done.
 use Rattle.std.proofs.Common.{◌≡◌, ◌∙◌, refl, sym, ap, subst, ℕ, ◌+◌, ◌<◌, ◌≤◌, Bool, true, false, inl, inr, List, [], ◌∷◌, arith}
-use Rattle.std.specs.Prelude.{Option, Some, None, Result, Ok, Err, ◌==◌, find}
+use Rattle.std.specs.Prelude.{Option, Some, None, Result, Ok, Err, ◌==◌}
 use Rattle.std.proofs.lemmas.Bool.{cases_Bool, eqb-true}
 use Rattle.gate_entries.specs.declared.passing.Passing.{Passing}
 use Rattle.gate_entries.specs.declared.passing.Passing.TheVariants.{Up, Down, Took, Returned}
 use Rattle.gate_entries.specs.declared.passing.Passing.TheVariants as passing
 use Rattle.gate_entries.specs.declared.recorded.Recorded.{Recorded}
 use Rattle.gate_entries.specs.declared.recorded.Recorded.TheVariants as entry
-use Rattle.gate_model.specs.Fold.{does, recorded, passing as passing_entry}
+use Rattle.gate_model.specs.Fold.{does, first_under, passes as passes_so, recorded}
 use Rattle.gate_model.specs.Lawful.{is_expired}
 use Rattle.gate_model.specs.Numbers.{value_under, without, with_change, Rise}
 use Rattle.gate_model.specs.Routing.{next}
-use Rattle.gate_model.specs.State.{State, IsInOrder, is_under}
+use Rattle.gate_model.specs.State.{State, IsInOrder}
 use Rattle.gate_model.specs.declared.reply.Refusal.{Refusal}
 use Rattle.gate_model.specs.declared.reply.Reply.{Reply}
 use Rattle.gate_model.specs.declared.waiting.Waiting.{Waiting}
 use Rattle.gate_store.specs.Deeds.{Performs, Passes, Takes, TakesNext, TakesMessage, Withholds}
-use Rattle.gate_store.specs.Store.{IsOpen, rules_in, state_in}
+use Rattle.gate_store.specs.Store.{IsOpen, birth_in, rules_in, state_in}
 use Rattle.gate_store.specs.declared.store.Store.{Store}
 use Rattle.gate_store.specs.declared.taken.Taken.{Taken}
 use Rattle.gate_store.specs.declared.taken.Taken.TheVariants as taken
@@ -116,24 +116,24 @@ one_freed from below message (pair ∷ pairs) rise =
 
 -- ---- behind a deed
 
-recorded_free : (state : State) (kept : Recorded) → IsOfLink kept → free_in (does state (recorded kept)).waiting ≤ free_in state.waiting
-recorded_free state (entry.Acked acked) is = fewer_without acked.message state.waiting
-recorded_free state (entry.Rejected rejected) is = fewer_without rejected.message state.waiting
-recorded_free state (entry.Reported r) is =
-    let same = ap free_in (hears_waiting r.kind r.smsc r.foreign (find (is_under r.smsc r.foreign) state.awaited) state) in
+recorded_free : (birth : ℕ) (state : State) (kept : Recorded) → IsOfLink kept → free_in (does birth state (recorded kept)).waiting ≤ free_in state.waiting
+recorded_free birth state (entry.Acked acked) is = fewer_without acked.message state.waiting
+recorded_free birth state (entry.Rejected rejected) is = fewer_without rejected.message state.waiting
+recorded_free birth state (entry.Reported r) is =
+    let same = ap free_in (hears_waiting r (first_under r state) state) in
     subst (λ (n : ℕ). n ≤ free_in state.waiting) (sym same) (omega arith)
-recorded_free state (entry.Arrived arrived) is = omega arith
-recorded_free state (entry.Accept accept) is = absurd is
-recorded_free state (entry.Answered answered) is = absurd is
-recorded_free state (entry.Called called) is = absurd is
-recorded_free state (entry.CallDropped dropped) is = absurd is
+recorded_free birth state (entry.Arrived arrived) is = omega arith
+recorded_free birth state (entry.Accept accept) is = absurd is
+recorded_free birth state (entry.Answered answered) is = absurd is
+recorded_free birth state (entry.Called called) is = absurd is
+recorded_free birth state (entry.CallDropped dropped) is = absurd is
 
 -- what it gives back may be one more
 abbrev pub freed_by : Passing → ℕ
 freed_by (passing.Returned message) = 1
 freed_by brief = 0
 
-passed_free : (link : ℕ) (state : State) (brief : Passing) → IsInOrder state → IsOfThis link brief → free_in (does state (passing_entry brief)).waiting ≤ free_in state.waiting + freed_by brief
+passed_free : (link : ℕ) (state : State) (brief : Passing) → IsInOrder state → IsOfThis link brief → free_in (passes_so brief state).waiting ≤ free_in state.waiting + freed_by brief
 passed_free link state (passing.Up other) order is = omega arith
 passed_free link state (passing.Down other) order is = omega arith
 passed_free link state (passing.Returned message) order is = one_freed 1 (state.last_message + 1) message state.waiting order.waiting
@@ -155,7 +155,7 @@ module _ {D : Type 0} (tells : Bool) (story : D → Story) (faults calls : D →
 
   pub free_performed : (old new : Store D) (kept : Recorded) (outcome : Result Reply Refusal) → IsOfLink kept → Performs tells story faults calls old kept outcome new → free_of new ≤ free_of old
   free_performed old new kept (Ok reply) is done =
-      subst (λ (s : State). free_in s.waiting ≤ free_of old) (sym done.state) (recorded_free (state_in old) kept is)
+      subst (λ (s : State). free_in s.waiting ≤ free_of old) (sym done.state) (recorded_free (birth_in old) (state_in old) kept is)
   free_performed old new kept (Err refusal) is done = subst (λ (s : State). free_in s.waiting ≤ free_of old) (sym done.state) (omega arith)
 
   pub free_passed : (old new : Store D) (link : ℕ) (brief : Passing) → IsOpen tells story old → IsOfThis link brief → Passes tells story faults calls old brief new

@@ -59,7 +59,7 @@ module _ {D : Type 0} (tells : Bool) (story : D → Story) (faults calls : D →
   -- the messages that wait in an open store have records
   stored : (store : Store D) → IsOpen tells story store → AreMessages (state_in store).waiting
   stored store is =
-      settled_messages (state_in store) (state_of (rules_in store) is.1) is.2.state (after_messages is.1 (start (rules_in store)) is.2.in_turn tt)
+      settled_messages (state_in store) (state_of is.0 (rules_in store) is.1) is.2.state (after_messages is.0 is.1 (start (rules_in store)) is.2.in_turn tt)
 
   -- a message that a link takes may be said, and the link doesn't hold it yet
   may_be_sent : (kind : LinkKind) (terms : Terms) (store : Store D) (latest now message number : ℕ) (sms : Sms) (uses : List Submitted) (held_ : List ℕ) (up : Bool)

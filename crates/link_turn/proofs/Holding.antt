@@ -1,6 +1,6 @@
 -- What a link holds in a store behind each of its deeds.
 use Rattle.std.proofs.Common.{◌≡◌, ◌∙◌, refl, sym, ap, subst, ℕ, ◌<◌, ◌^◌, Bool, true, false, inl, inr, List, [], ◌∷◌, ◌++◌, length}
-use Rattle.std.specs.Prelude.{⊤, Option, Some, None, Result, Ok, Err, IsSomeAnd, slice_get, slice_set, nat_lt, find, ◌==◌}
+use Rattle.std.specs.Prelude.{⊤, Option, Some, None, Result, Ok, Err, IsSomeAnd, slice_get, slice_set, nat_lt, if◌then◌else◌, ◌==◌}
 use Rattle.std.specs.Option.{option_and_then}
 use Rattle.std.proofs.lemmas.Bool.{lt-ltb, cases_Bool}
 use Rattle.gate_entries.specs.declared.passing.Passing.{Passing}
@@ -8,20 +8,22 @@ use Rattle.gate_entries.specs.declared.passing.Passing.TheVariants.{Up, Down, To
 use Rattle.gate_entries.specs.declared.passing.Passing.TheVariants as passing
 use Rattle.gate_entries.specs.declared.recorded.Recorded.{Recorded}
 use Rattle.gate_entries.specs.declared.recorded.Recorded.TheVariants as entry
-use Rattle.gate_model.specs.Fold.{does, recorded, passing as passing_entry, hears as hears_report}
+use Rattle.gate_model.specs.Fold.{does, closes, first_under, is_last, passes as passes_so, recorded, hears as hears_report}
 use Rattle.gate_model.specs.Gate.{lease_under}
 use Rattle.gate_model.specs.Lawful.{MayTake, is_expired}
 use Rattle.gate_model.specs.Numbers.{value_under, with_changes}
 use Rattle.gate_model.specs.Routing.{next}
 use Rattle.gate_model.specs.Settling.{settle, free_waiting}
-use Rattle.gate_model.specs.State.{State, Awaited, IsInOrder, is_under}
+use Rattle.dlr_table.specs.declared.awaited.Awaited.{Awaited}
+use Rattle.gate_entries.specs.declared.reported.Reported.{Reported}
+use Rattle.gate_model.specs.State.{State, IsInOrder}
 use Rattle.gate_model.specs.declared.reply.Refusal.{Refusal}
 use Rattle.gate_model.specs.declared.reply.Reply.{Reply}
 use Rattle.gate_model.specs.declared.waiting.Waiting.{Waiting}
 use Rattle.gate_model.proofs.TakeLemmas.{next_may_be_taken}
 use Rattle.gate_store.proofs.Keeping.{may_come_up}
 use Rattle.gate_store.specs.Deeds.{Performs, Passes, Takes, TakesNext, TakesMessage, Withholds}
-use Rattle.gate_store.specs.Store.{IsOpen, rules_in, state_in}
+use Rattle.gate_store.specs.Store.{IsOpen, birth_in, rules_in, state_in}
 use Rattle.gate_store.specs.declared.store.Store.{Store}
 use Rattle.gate_store.specs.declared.taken.Taken.{Taken}
 use Rattle.gate_store.specs.declared.taken.Taken.TheVariants as taken
@@ -93,28 +95,28 @@ of_same link messages up old new of we ue = record {
   is_up = ap (λ (ups : List Bool). slice_get ups link) ue ∙ of.is_up;
 }
 
-hears_up : (kind : Kind) (smsc foreign : List ℕ) (one : Option Awaited) (state : State) → (hears_report kind smsc foreign one state).up ≡ state.up
-hears_up kind smsc foreign None state = refl
-hears_up kind_is.Delivered smsc foreign (Some awaited) state = refl
-hears_up kind_is.Undelivered smsc foreign (Some awaited) state = refl
-hears_up kind_is.Buffered smsc foreign (Some awaited) state = refl
-hears_up kind_is.Sent smsc foreign (Some awaited) state = refl
-hears_up kind_is.Refused smsc foreign (Some awaited) state = refl
+hears_up : (reported : Reported) (one : Option Awaited) (state : State) → (hears_report reported one state).up ≡ state.up
+hears_up reported None state = refl
+hears_up reported (Some awaited) state =
+    elim (is_last reported.kind) as (λ last. (if last then closes reported.smsc reported.foreign state else state).up ≡ state.up) [
+      | true ↦ refl
+      | false ↦ refl
+    ]
 
 -- an entry of a link is recorded: what it ends is no more held
-recorded_of : (link : ℕ) (messages : List ℕ) (up : Bool) (state : State) (kept : Recorded) → IsOfLink kept → IsOf link messages up state
-    → IsOf link (without_any (ended_by kept) messages) up (does state (recorded kept))
-recorded_of link messages up state (entry.Acked acked) is of = of_ended link acked.message messages up state (does state (recorded (entry.Acked acked))) of refl refl
-recorded_of link messages up state (entry.Rejected rejected) is of = of_ended link rejected.message messages up state (does state (recorded (entry.Rejected rejected))) of refl refl
-recorded_of link messages up state (entry.Reported r) is of =
-    of_same link messages up state (does state (recorded (entry.Reported r))) of
-    (hears_waiting r.kind r.smsc r.foreign (find (is_under r.smsc r.foreign) state.awaited) state)
-    (hears_up r.kind r.smsc r.foreign (find (is_under r.smsc r.foreign) state.awaited) state)
-recorded_of link messages up state (entry.Arrived arrived) is of = of_same link messages up state (does state (recorded (entry.Arrived arrived))) of refl refl
-recorded_of link messages up state (entry.Accept accept) is of = absurd is
-recorded_of link messages up state (entry.Answered answered) is of = absurd is
-recorded_of link messages up state (entry.Called called) is of = absurd is
-recorded_of link messages up state (entry.CallDropped dropped) is of = absurd is
+recorded_of : (birth link : ℕ) (messages : List ℕ) (up : Bool) (state : State) (kept : Recorded) → IsOfLink kept → IsOf link messages up state
+    → IsOf link (without_any (ended_by kept) messages) up (does birth state (recorded kept))
+recorded_of birth link messages up state (entry.Acked acked) is of = of_ended link acked.message messages up state (does birth state (recorded (entry.Acked acked))) of refl refl
+recorded_of birth link messages up state (entry.Rejected rejected) is of = of_ended link rejected.message messages up state (does birth state (recorded (entry.Rejected rejected))) of refl refl
+recorded_of birth link messages up state (entry.Reported r) is of =
+    of_same link messages up state (does birth state (recorded (entry.Reported r))) of
+    (hears_waiting r (first_under r state) state)
+    (hears_up r (first_under r state) state)
+recorded_of birth link messages up state (entry.Arrived arrived) is of = of_same link messages up state (does birth state (recorded (entry.Arrived arrived))) of refl refl
+recorded_of birth link messages up state (entry.Accept accept) is of = absurd is
+recorded_of birth link messages up state (entry.Answered answered) is of = absurd is
+recorded_of birth link messages up state (entry.Called called) is of = absurd is
+recorded_of birth link messages up state (entry.CallDropped dropped) is of = absurd is
 
 -- what passes for a link that does its own wishes
 abbrev pub IsOfThis : (link : ℕ) → Passing → Type 0
@@ -129,13 +131,13 @@ IsOfThis link (passing.ReturnedArrival arrival) = ⊥
 
 -- something passes
 passed_of : (link : ℕ) (messages : List ℕ) (up : Bool) (state : State) (brief : Passing) → IsOfThis link brief → IsOf link messages up state
-    → IsOf link (without_any (given_back_by brief) messages) (up_passed brief up) (does state (passing_entry brief))
+    → IsOf link (without_any (given_back_by brief) messages) (up_passed brief up) (passes_so brief state)
 passed_of link messages up state (passing.Up other) is of =
-    of_moved link messages up true state (does state (passing_entry (passing.Up other))) of refl (ap (λ (l : ℕ). slice_set state.up l true) is)
+    of_moved link messages up true state (passes_so (passing.Up other) state) of refl (ap (λ (l : ℕ). slice_set state.up l true) is)
 passed_of link messages up state (passing.Down other) is of =
-    of_moved link messages up false state (does state (passing_entry (passing.Down other))) of refl (ap (λ (l : ℕ). slice_set state.up l false) is)
+    of_moved link messages up false state (passes_so (passing.Down other) state) of refl (ap (λ (l : ℕ). slice_set state.up l false) is)
 passed_of link messages up state (passing.Returned message) is of =
-    of_returned link message messages up state (does state (passing_entry (passing.Returned message))) of refl refl
+    of_returned link message messages up state (passes_so (passing.Returned message) state) of refl refl
 passed_of link messages up state (passing.Took other message time) is of = absurd is
 passed_of link messages up state (passing.TookJob job) is of = absurd is
 passed_of link messages up state (passing.ReturnedJob job) is of = absurd is
@@ -156,7 +158,7 @@ module _ {D : Type 0} (tells : Bool) (story : D → Story) (faults calls : D →
   pub of_performed : (old new : Store D) (link : ℕ) (messages : List ℕ) (up : Bool) (kept : Recorded) (outcome : Result Reply Refusal) → IsOfLink kept
       → IsOf link messages up (state_in old) → Performs tells story faults calls old kept outcome new → IsOf link (held_recorded kept outcome messages) up (state_in new)
   of_performed old new link messages up kept (Ok reply) is of done =
-      subst (IsOf link (without_any (ended_by kept) messages) up) (sym done.state) (recorded_of link messages up (state_in old) kept is of)
+      subst (IsOf link (without_any (ended_by kept) messages) up) (sym done.state) (recorded_of (birth_in old) link messages up (state_in old) kept is of)
   of_performed old new link messages up kept (Err refusal) is of done = subst (IsOf link messages up) (sym done.state) of
 
   pub of_passed : (old new : Store D) (link : ℕ) (messages : List ℕ) (up : Bool) (brief : Passing) → IsOfThis link brief

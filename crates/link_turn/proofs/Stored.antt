@@ -1,16 +1,18 @@
 -- The messages that wait in a store are messages: each came with an entry that may come next.
 use Rattle.std.proofs.Common.{◌≡◌, ◌∙◌, refl, sym, subst, ℕ, ◌+◌, inl, inr, List, [], ◌∷◌, ◌++◌, map}
-use Rattle.std.specs.Prelude.{Option, Some, None, find, All, ⊤, ◌==◌}
+use Rattle.std.specs.Prelude.{Option, Some, None, true, false, All, ⊤, ◌==◌, if◌then◌else◌}
 use Rattle.std.proofs.lemmas.Bool.{cases_Bool}
 use Rattle.std.proofs.lemmas.List.Elements.{All-head, All-tail}
+use Rattle.dlr_table.specs.declared.awaited.Awaited.{Awaited}
 use Rattle.gate_entries.specs.declared.recorded.Recorded.{Recorded}
 use Rattle.gate_entries.specs.declared.recorded.Recorded.TheVariants as entry
+use Rattle.gate_entries.specs.declared.reported.Reported.{Reported}
 use Rattle.gate_model.specs.declared.waiting.Waiting.{Waiting}
-use Rattle.gate_model.specs.Fold.{does, keeps, hears, recorded, after, unleased}
+use Rattle.gate_model.specs.Fold.{does, moves, hears, closes, first_under, is_last, recorded, after, unleased}
 use Rattle.gate_model.specs.Lawful.{IsSound}
 use Rattle.gate_model.specs.Numbers.{value_under, without, with_changes, numbered_from}
 use Rattle.gate_model.specs.Settling.{settle, free_waiting}
-use Rattle.gate_model.specs.State.{State, Awaited, is_under}
+use Rattle.gate_model.specs.State.{State}
 use Rattle.gate_store.specs.Entries.{AreInTurn}
 use Rattle.sms_record.specs.Record.{IsSms}
 use Rattle.sms_record.specs.declared.kind.Kind.{Kind}
@@ -43,30 +45,32 @@ are_freed : (pairs : List (ℕ × Waiting)) → AreMessages (with_changes free_w
 are_freed [] are = tt
 are_freed (pair ∷ pairs) are = (are.0, are_freed pairs are.1)
 
-pub hears_waiting : (kind : Kind) (smsc foreign : List ℕ) (one : Option Awaited) (state : State) → (hears kind smsc foreign one state).waiting ≡ state.waiting
-hears_waiting kind smsc foreign None state = refl
-hears_waiting kind.Delivered smsc foreign (Some awaited) state = refl
-hears_waiting kind.Undelivered smsc foreign (Some awaited) state = refl
-hears_waiting kind.Buffered smsc foreign (Some awaited) state = refl
-hears_waiting kind.Sent smsc foreign (Some awaited) state = refl
-hears_waiting kind.Refused smsc foreign (Some awaited) state = refl
+pub hears_waiting : (reported : Reported) (one : Option Awaited) (state : State) → (hears reported one state).waiting ≡ state.waiting
+hears_waiting reported None state = refl
+hears_waiting reported (Some awaited) state =
+    elim (is_last reported.kind) as (λ last. (if last then closes reported.smsc reported.foreign state else state).waiting ≡ state.waiting) [
+      | true ↦ refl
+      | false ↦ refl
+    ]
 
-keeps_messages : (state : State) (kept : Recorded) → IsSound state kept → AreMessages state.waiting → AreMessages (keeps kept state).waiting
-keeps_messages state (entry.Accept accept) sound are =
+moves_messages : (state : State) (kept : Recorded) → IsSound state kept → AreMessages state.waiting → AreMessages (moves kept state).waiting
+moves_messages state (entry.Accept accept) sound are =
     are_more state.waiting (numbered_from (state.last_message + 1) (map unleased accept.parts)) are (are_numbered (state.last_message + 1) accept.parts sound.0.each)
-keeps_messages state (entry.Acked acked) sound are = are_without acked.message state.waiting are
-keeps_messages state (entry.Rejected rejected) sound are = are_without rejected.message state.waiting are
-keeps_messages state (entry.Reported reported) sound are =
-    subst AreMessages (sym (hears_waiting reported.kind reported.smsc reported.foreign (find (is_under reported.smsc reported.foreign) state.awaited) state)) are
-keeps_messages state (entry.Arrived arrived) sound are = are
-keeps_messages state (entry.Answered answered) sound are =
+moves_messages state (entry.Acked acked) sound are = are_without acked.message state.waiting are
+moves_messages state (entry.Rejected rejected) sound are = are_without rejected.message state.waiting are
+moves_messages state (entry.Reported reported) sound are =
+    subst AreMessages (sym (hears_waiting reported (first_under reported state) state)) are
+moves_messages state (entry.Arrived arrived) sound are = are
+moves_messages state (entry.Answered answered) sound are =
     are_more state.waiting (numbered_from (state.last_message + 1) (map unleased answered.parts)) are (are_numbered (state.last_message + 1) answered.parts sound.0.each)
-keeps_messages state (entry.Called called) sound are = are
-keeps_messages state (entry.CallDropped dropped) sound are = are
+moves_messages state (entry.Called called) sound are = are
+moves_messages state (entry.CallDropped dropped) sound are = are
 
-pub after_messages : (entries : List Recorded) (state : State) → AreInTurn state entries → AreMessages state.waiting → AreMessages (after state (map recorded entries)).waiting
-after_messages [] state turn are = are
-after_messages (kept ∷ entries) state turn are = after_messages entries (does state (recorded kept)) turn.1 (keeps_messages state kept turn.0.sound are)
+pub after_messages : (birth : ℕ) (entries : List Recorded) (state : State) → AreInTurn birth state entries → AreMessages state.waiting
+    → AreMessages (after birth state (map recorded entries)).waiting
+after_messages birth [] state turn are = are
+after_messages birth (kept ∷ entries) state turn are =
+    after_messages birth entries (does birth state (recorded kept)) turn.1 (moves_messages state kept turn.0.sound are)
 
 -- also those that some link has taken
 pub settled_messages : (state settled : State) → settle state ≡ settled → AreMessages settled.waiting → AreMessages state.waiting

@@ -10,12 +10,10 @@ use Rattle.kn_base.specs.Course.{Course, with_more}
 use Rattle.kn_base.specs.Talk.{heard_of, said_of}
 use Rattle.kn_base.specs.declared.piece.Piece.{Piece}
 use Rattle.link_core.specs.declared.heard.Heard.{Heard}
-use Rattle.link_core.specs.declared.heard.Heard.TheVariants as heard_is
 use Rattle.link_core.specs.declared.out.Out.{Out}
 use Rattle.route_rules.specs.declared.link_kind.LinkKind.{LinkKind}
 use Rattle.route_rules.specs.declared.link_rule.LinkRule.{LinkRule}
 use Rattle.route_rules.specs.declared.rules.Rules.{Rules}
-use Rattle.sms_record.specs.declared.kind.Kind.{Kind}
 use Rattle.store_disk.specs.Story.{Story}
 use Rattle.link_turn.specs.Back.{IsAmong}
 use Rattle.link_turn.specs.Steps.{Deed, performed, passed, took, deeds_in}
@@ -48,10 +46,6 @@ pub record IsLinkOf (kind : LinkKind) (terms : Terms) (rules : Rules) : Type 0 w
 -- a reading of the clock
 abbrev pub IsReading : ℕ → Type 0
 IsReading reading = reading < 2 ^ 37
-
--- as yet no store takes a report, so none may be heard
-abbrev pub HearsNoReport : (List ℕ → Heard → Type 0) → Type 0
-HearsNoReport hears = (octets : List ℕ) (tag : ℕ) (foreign : List ℕ) (kind : Kind) (text : List ℕ) → ¬ hears octets (heard_is.Report tag foreign kind text)
 
 -- Some steps led to where a session is, which listens or hasn't begun.
 pub record WasLed {C : Type 0} (hears : List ℕ → Heard → Type 0) (refuses : List ℕ → ℕ → ℕ → Type 0) (said : C → Out → List ℕ) (session : Session C) : Type 0 where

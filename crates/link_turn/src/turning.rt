@@ -34,7 +34,6 @@ pub fn turn_solo<C: LinkCore, D: Disk, P: Peer, K: Clock>(
     stop: bool,
 ) -> Turned
     requires may { turn.MayTurn C.tags C.next_tag C.holds C.kind C.hears C.refuses C.said D.tells D.story session.old store.old (K.latest clock.old) }
-    requires no_reports { turn.HearsNoReport C.hears }
     ensures again { turn.MayTurnAgain C.tags C.next_tag C.holds C.kind C.hears C.refuses C.said D.tells D.story session.old result session.new store.new (K.latest clock.new) }
     ensures rules { rules_in store.new ≡ rules_in store.old }
     ensures counts { turn.CountsTurn (spec.IsFresh session.old) stop result (P.course peer.old).counts (P.course peer.new).counts }
@@ -71,7 +70,6 @@ fn carry_out<C: LinkCore, D: Disk, P: Peer, K: Clock>(
     stop: bool,
 ) -> Option<EndCause>
     requires wishes { doing.Wishes C.tags C.next_tag C.holds C.kind C.hears C.refuses C.said D.tells D.story first session.old store.old (K.latest clock.old) }
-    requires no_reports { turn.HearsNoReport C.hears }
     ensures done { doing.IsDone C.tags C.next_tag C.holds C.kind C.hears C.refuses C.said D.tells D.story result session.new store.new (K.latest clock.new) }
     ensures terms { spec.terms_of session.new ≡ spec.terms_of session.old }
     ensures rules { rules_in store.new ≡ rules_in store.old }

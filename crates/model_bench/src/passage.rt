@@ -41,7 +41,10 @@ fn put_entry(gate: &mut Gate, entry: Recorded) -> bool
     ensures whole { IsGate gate.new }
     ensures up { (model_of gate.new).up ≡ (model_of gate.old).up }
 {
-    if gate.check(&entry).is_err() || !gate.suits(&entry) {
+    if gate.check(&entry).is_err() {
+        return false;
+    }
+    if !gate.suits(&entry) {
         return false;
     }
     match gate.prepare(entry, BIRTH) {

@@ -28,6 +28,27 @@ pub(crate) fn put_totals(report: &mut Octets, totals: Totals) -> Result<(), Memo
     put_named(report, b" entries ", totals.entries)
 }
 
+/// Puts the counts of reports last.
+pub(crate) fn put_report_totals(report: &mut Octets, totals: Totals) -> Result<(), Memory> {
+    put_named(report, b"awaited ", totals.awaited)?;
+    put_named(report, b" unmatched ", totals.unmatched)?;
+    put_named(report, b" jobs ", totals.jobs)?;
+    put_named(report, b" called ", totals.called)?;
+    put_named(report, b" dropped ", totals.dropped)
+}
+
+/// Puts last which job comes next, and its URL.
+fn put_job(report: &mut Octets, gate: &Gate) -> Result<(), Memory> {
+    match gate.next_job() {
+        Some(job) => {
+            put_named(report, b"job ", job)?;
+            report.push(b' ')?;
+            report.extend_from_slice(gate.job(job).unwrap_or(&[]))
+        }
+        None => report.extend_from_slice(b"none"),
+    }
+}
+
 pub(crate) fn put_reply(report: &mut Octets, reply: Reply) -> Result<(), Memory> {
     match reply {
         Reply::Accepted {
@@ -67,7 +88,7 @@ fn put_number(report: &mut Octets, number: Option<u64>) -> Result<(), Memory> {
 /// Hands a gate an entry for which it has room.
 fn put_applied(gate: &mut Gate, ready: Ready, report: &mut Octets) -> Result<(), Memory>
     requires whole { IsGate gate.old }
-    requires room { HasRoom gate.old (entry_of ready) }
+    requires room { HasRoom gate.old ready }
     requires few { (model_of gate.old).entries < most_entries }
     requires sound { IsSound (model_of gate.old) (entry_of ready) }
     ensures { IsGate gate.new }
@@ -167,6 +188,10 @@ fn put_act(alloc: Global, gate: &mut Gate, act: &[u8], report: &mut Octets) -> R
     let now = nth(numbers.as_slice(), 1);
     if kind == b"totals".as_slice() {
         put_totals(report, gate.totals())
+    } else if kind == b"reports".as_slice() {
+        put_report_totals(report, gate.totals())
+    } else if kind == b"job".as_slice() {
+        put_job(report, gate)
     } else if kind == b"next".as_slice() {
         put_next(report, gate, link, now)
     } else if kind == b"take".as_slice() {

@@ -6,10 +6,17 @@ use std::alloc::Global;
 
 /// What stands in front of the times of a record: from 123 to 0123456, eight-bit, one part, no reports.
 const TO_NUMBER: &[u8] = b"\x00\x03123\x00\x070123456\x01\xFF\x00\x01\x01\x00";
+/// The same up to the mask.
+const TO_NUMBER_ASKING: &[u8] = b"\x00\x03123\x00\x070123456\x01\xFF\x00\x01\x01";
 /// The same to a text, which no link takes.
 const TO_TEXT: &[u8] = b"\x00\x03123\x02\x070123456\x01\xFF\x00\x01\x01\x00";
 /// What stands behind them: no header, the body `hello`, no SMSC id, URL, account or service.
 const CONTENTS: &[u8] = b"\x00\x00\x05hello\x00\x00\x00\x00\x00";
+/// What stands behind the times of a record that asks for reports: the same with a URL of 44 octets.
+const CONTENTS_TO_REPORT: &[u8] =
+    b"\x00\x00\x05hello\x00\x00\x2Chttp://h/?t=%d&f=%F&a=%A&T=%T&P=%P&i=%i&I=%I\x00\x00";
+/// The SMSC id `main` and the foreign id `A1`.
+const KEY: &[u8] = b"\x00\x04main\x00\x02A1";
 /// An empty SMSC id, or foreign id.
 const NO_TEXT: &[u8] = b"\x00\x00";
 
@@ -67,6 +74,27 @@ fn put_answered(into: &mut Octets, numbers: &[u64]) -> Result<(), Memory> {
     put_messages(into, TO_NUMBER, &[nth(numbers, 0), nth(numbers, 1)])
 }
 
+/// One message that asks for reports: its time, and the mask.
+fn put_asked(into: &mut Octets, numbers: &[u64]) -> Result<(), Memory> {
+    let time = nth(numbers, 0);
+    put_eight(into, time)?;
+    put_two(into, 1)?;
+    into.extend_from_slice(TO_NUMBER_ASKING)?;
+    into.push(nth(numbers, 1).min(31) as u8)?;
+    into.extend_from_slice(&[0; 8])?;
+    put_eight(into, time)?;
+    into.extend_from_slice(CONTENTS_TO_REPORT)
+}
+
+/// A report under the key: its kind, and the time.
+fn put_report(into: &mut Octets, numbers: &[u64]) -> Result<(), Memory> {
+    into.push(4)?;
+    into.extend_from_slice(KEY)?;
+    into.push(nth(numbers, 0).min(255) as u8)?;
+    into.extend_from_slice(b"\x00\x07id:A1 s")?;
+    put_eight(into, nth(numbers, 1))
+}
+
 /// A message that ended: its number, its texts, and a time.
 fn put_ended(into: &mut Octets, kind: u8, texts: &[u8], numbers: &[u64]) -> Result<(), Memory> {
     into.push(kind)?;
@@ -84,6 +112,11 @@ fn put_kind(into: &mut Octets, kind: &[u8], numbers: &[u64]) -> Result<(), Memor
         put_messages(into, TO_TEXT, numbers)
     } else if kind == b"acked".as_slice() {
         put_ended(into, 2, b"\x00\x00\x00\x00", numbers)
+    } else if kind == b"asked".as_slice() {
+        into.push(1)?;
+        put_asked(into, numbers)
+    } else if kind == b"taken".as_slice() {
+        put_ended(into, 2, KEY, numbers)
     } else if kind == b"rejected".as_slice() {
         put_ended(into, 3, b"\x00\x00\x00\x00\x00\x00\x0B", numbers)
     } else if kind == b"expired".as_slice() {
@@ -97,6 +130,8 @@ fn put_other(into: &mut Octets, kind: &[u8], numbers: &[u64]) -> Result<(), Memo
     if kind == b"reported".as_slice() {
         into.extend_from_slice(b"\x04\x00\x00\x00\x00\x01\x00\x00")?;
         put_eight(into, nth(numbers, 0))
+    } else if kind == b"report".as_slice() {
+        put_report(into, numbers)
     } else if kind == b"arrived".as_slice() {
         into.push(5)?;
         into.extend_from_slice(NO_TEXT)?;
@@ -108,6 +143,10 @@ fn put_other(into: &mut Octets, kind: &[u8], numbers: &[u64]) -> Result<(), Memo
         into.push(7)?;
         put_eight(into, nth(numbers, 0))?;
         put_two(into, 200)
+    } else if kind == b"dropped".as_slice() {
+        into.push(8)?;
+        put_eight(into, nth(numbers, 0))?;
+        into.push(0)
     } else {
         Ok(())
     }

@@ -3,9 +3,11 @@
 //! a line of standard output.
 //!
 //! `accept TIME COUNT DEFERRED VALIDITY`, and `adrift` the same to a receiver that no link takes; `acked MESSAGE TIME`, `rejected MESSAGE
-//! TIME`, `expired MESSAGE TIME`, `reported TIME`, `arrived`, `answered TIME COUNT ARRIVAL ..`, `called JOB`: entries that are recorded.
+//! TIME`, `expired MESSAGE TIME`, `reported TIME`, `arrived`, `answered TIME COUNT ARRIVAL ..`, `called JOB`, `dropped JOB`: entries that are recorded.
+//! `asked TIME MASK` accepts a message that asks for reports, `taken MESSAGE TIME` acknowledges one under the SMSC id `main` and the foreign id
+//! `A1`, and `report KIND TIME` reports under these. `reports` are the counts of reports, and `job` is the next job and its URL.
 //! `next LINK NOW`, `take LINK NOW`, `back MESSAGE`, `totals`. Where `load` stands in front of the line, a loader is handed the entries.
-//! Where `store` does, the acts are those of a store in memory: behind the head stand the numbers of the disk calls that fail.
+//! Where `store` does, the acts are those of a store in memory: behind the head stand the numbers of the disk calls that fail, and `job` takes the job.
 #![tactic(auto)]
 
 mod acts;

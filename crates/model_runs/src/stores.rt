@@ -5,12 +5,11 @@ ghost use Rattle.gate_entries.specs.Entry.{IsEntry};
 ghost use Rattle.gate_model.specs.Gate.{HaveIds};
 ghost use Rattle.gate_entries.specs.declared.passing.Passing.TheVariants.{Up};
 ghost use Rattle.gate_model.specs.Lawful.{MayPass};
-ghost use Rattle.gate_model.specs.Loading.{is_served};
 ghost use Rattle.gate_model.specs.Settling.{settle};
 ghost use Rattle.gate_store.specs.Store.{IsOpen, rules_in, state_in};
 ghost use Rattle.gate_store.specs.StoreSteps.{MayRecord};
 
-use crate::acts::{END_OF_TIME, put_refusal, put_reply, put_totals};
+use crate::acts::{END_OF_TIME, put_refusal, put_reply, put_report_totals, put_totals};
 use crate::entries::{entry_octets, nth};
 use crate::rules::rules_of;
 use gate_entries::{Passing, Recorded, entry_size, read_entry};
@@ -27,16 +26,6 @@ const MOST_PAYLOAD: u64 = 16_777_216;
 
 /// The birth of a store.
 const BIRTH: u64 = 1;
-
-/// Whether a store keeps entries of this kind as yet.
-fn is_kept(entry: &Recorded) -> bool
-    ensures { result ≡ is_served entry.now }
-{
-    match entry {
-        Recorded::Reported(_) | Recorded::Called(_) | Recorded::CallDropped(_) => false,
-        _ => true,
-    }
-}
 
 /// Has a store record an entry.
 fn record<D: Disk>(store: &mut Store<D>, entry: Recorded) -> Result<Reply, Refusal>
@@ -57,6 +46,15 @@ fn take<D: Disk>(store: &mut Store<D>, link: u32, now: u64) -> Result<Option<Tak
     ensures ruled { rules_in store.new ≡ rules_in store.old }
 {
     store.take_next(link, now)
+}
+
+/// What is given that asks for the next job.
+fn take_job<D: Disk>(store: &mut Store<D>) -> Result<Option<(u64, Octets, u32)>, Memory>
+    requires kept { IsOpen D.tells D.story store.old }
+    ensures kept { IsOpen D.tells D.story store.new }
+    ensures ruled { rules_in store.new ≡ rules_in store.old }
+{
+    store.take_job()
 }
 
 /// A link comes up.
@@ -81,7 +79,7 @@ fn put_recorded<D: Disk>(
     ensures kept { IsOpen D.tells D.story store.new }
     ensures ids { HaveIds (rules_in store.new) }
 {
-    if !is_kept(&entry) || !store.state().suits(&entry) || entry_size(&entry) > MOST_PAYLOAD {
+    if !store.state().suits(&entry) || entry_size(&entry) > MOST_PAYLOAD {
         return report.extend_from_slice(b"unsound");
     }
     match record(store, entry) {
@@ -132,6 +130,25 @@ fn put_taken<D: Disk>(
     }
 }
 
+/// Puts last what is given that asks for the next job: its number, how often it was given back, and its URL.
+fn put_job<D: Disk>(store: &mut Store<D>, report: &mut Octets) -> Result<(), Memory>
+    requires kept { IsOpen D.tells D.story store.old }
+    requires ids { HaveIds (rules_in store.old) }
+    ensures kept { IsOpen D.tells D.story store.new }
+    ensures ids { HaveIds (rules_in store.new) }
+{
+    match take_job(store) {
+        Ok(Some((job, url, tries))) => {
+            put_named(report, b"job ", job)?;
+            put_named(report, b" back ", u64::from(tries))?;
+            report.push(b' ')?;
+            report.extend_from_slice(url.as_slice())
+        }
+        Ok(None) => report.extend_from_slice(b"none"),
+        Err(Memory) => Err(Memory),
+    }
+}
+
 /// Does an act, and puts last what it came to.
 fn put_act<D: Disk>(
     alloc: Global,
@@ -147,6 +164,10 @@ fn put_act<D: Disk>(
     let (kind, rest) = cut_at(act, b' ');
     if kind == b"totals".as_slice() {
         put_totals(report, store.totals())
+    } else if kind == b"reports".as_slice() {
+        put_report_totals(report, store.totals())
+    } else if kind == b"job".as_slice() {
+        put_job(store, report)
     } else if kind == b"take".as_slice() {
         let numbers = numbers_of(alloc, rest)?;
         let link = nth(numbers.as_slice(), 0).min(100) as u32;

@@ -1,6 +1,7 @@
 -- What commands are heard as keeps to the laws of a protocol.
-use Rattle.std.proofs.Common.{◌≡◌, ℕ, ◌/◌, ◌%◌, ◌<◌, ◌≤◌, ◌^◌, Bool, true, false, cond, List, ◌++◌, length, IfSome, refl, sym, ap, subst, ◌∙◌, arith, inl, inr}
-use Rattle.std.specs.Prelude.{nat_lt, ◌==◌, ◌||◌}
+use Rattle.std.proofs.Common.{◌≡◌, ℕ, ◌/◌, ◌%◌, ◌<◌, ◌≤◌, ◌^◌, Bool, true, false, cond, List, [], ◌∷◌, ◌++◌, length, Option, Some, None, IfSome, refl, sym, ap, subst, ◌∙◌, arith, inl, inr}
+use Rattle.std.specs.Prelude.{nat_lt, ◌==◌, ◌||◌, bytes_eq, codes}
+use Rattle.std.proofs.lemmas.List.{length-take}
 use Rattle.std.proofs.lemmas.Bool.{cases_Bool, eqb-true}
 use Rattle.sms_record.specs.declared.limits.TheConstants.{MOST_BODY, MOST_HEADER}
 use Rattle.sms_record.specs.Header.{IsHeaderOrNone}
@@ -9,13 +10,15 @@ use Rattle.smpp_wire.specs.Command.{MessageFields, Fields, Bind, BindReply, Mess
 use Rattle.smpp_wire.specs.Grammar.{IsOf, frame, frame_length, row_of}
 use Rattle.smpp_wire.proofs.Streams.{one_frame}
 use Rattle.link_core.specs.declared.heard.Heard.{Heard}
-use Rattle.link_core.specs.Heard.{heard_tag, IsSoundVerdict, IsSound, IsArrival}
+use Rattle.link_core.specs.Heard.{heard_tag, IsSoundVerdict, IsReported, IsSound, IsArrival}
 use Rattle.link_core.specs.Arrivals.{address_of, body_of}
 use Rattle.link_core.specs.Dcs.{class_in}
 use Rattle.link_core.specs.Grammar.{IsGrammar}
 use Rattle.link_core.proofs.Arrivals.{address_kept, body_coded, body_kept, arrives}
 use Rattle.smpp_link.specs.Delivery.{is_report, says_header, header_and_text, coding_of, text_of, is_international, sms_of, delivered}
 use Rattle.smpp_link.specs.Hearing.{is_temporary, verdict_of, foreign_in, told, heard_of, Hears}
+use Rattle.smpp_link.specs.Receipts.{value_in, word_behind, id_of, kind_of_number, kind_of_state, kind_of_word, kind_of, reported}
+use Rattle.smpp_link.specs.declared.receipt.TheConstants.{RECEIPTED_MESSAGE_ID, MESSAGE_STATE, MOST_ID}
 use Rattle.smpp_link.proofs.Headers.{header_good}
 
 -- what is true of both is true of the one that is chosen
@@ -90,14 +93,40 @@ message_arrives m =
     (header_and_text m.esm_class m.short_message).0 (body_of coding text) (address_kept (is_international m.source_ton) m.source)
     (address_kept (is_international m.destination_ton) m.destination) (classed m.data_coding) parts.0 parts.1 (body_kept coding text) (body_coded coding text)
 
-delivered_sound : (tag : ℕ) (fields : Fields) → IsSound (delivered tag fields)
-delivered_sound tag (Message m) = chosen IsSound (is_report m.esm_class) _ _ tt (message_arrives m)
-delivered_sound tag (Bind b) = tt
-delivered_sound tag (BindReply system_id tlvs) = tt
-delivered_sound tag (SubmitReply message_id) = tt
-delivered_sound tag DeliverReply = tt
-delivered_sound tag Nothing = tt
-delivered_sound tag (Any octets) = tt
+number_reported : (state : ℕ) → IsReported (kind_of_number state)
+number_reported state = chosen IsReported (state == 2) _ _ tt (chosen IsReported (state == 1 || state == 6 || state == 7) _ _ tt tt)
+
+state_reported : (state : List ℕ) → IsReported (kind_of_state state)
+state_reported [] = tt
+state_reported (state ∷ []) = number_reported state
+state_reported (first ∷ second ∷ rest) = tt
+
+word_reported : (word : List ℕ) → IsReported (kind_of_word word)
+word_reported word =
+    chosen IsReported (bytes_eq word (codes "DELIVRD")) _ _ tt
+    (chosen IsReported (bytes_eq word (codes "ACCEPTD") || bytes_eq word (codes "UNKNOWN")) _ _ tt tt)
+
+kind_reported : (parameter word : Option (List ℕ)) → IsReported (kind_of parameter word)
+kind_reported (Some state) word = state_reported state
+kind_reported None (Some word) = word_reported word
+kind_reported None None = tt
+
+report_sound : (tag : ℕ) (text tlvs : List ℕ) → length text ≤ 254 → IsSound (reported tag text tlvs)
+report_sound tag text tlvs short = (
+  omega (arith, length-take MOST_ID (id_of (value_in RECEIPTED_MESSAGE_ID tlvs) (word_behind (codes "id:") text))),
+  kind_reported (value_in MESSAGE_STATE tlvs) (word_behind (codes "stat:") text),
+  omega (arith, short),
+)
+
+delivered_sound : (tag : ℕ) (fields : Fields) → IsOf (row_of DELIVER_SM) fields → IsSound (delivered tag fields)
+delivered_sound tag (Message m) is =
+    chosen IsSound (is_report m.esm_class) _ _ (report_sound tag m.short_message m.tlvs is.short_message) (message_arrives m)
+delivered_sound tag (Bind b) is = tt
+delivered_sound tag (BindReply system_id tlvs) is = tt
+delivered_sound tag (SubmitReply message_id) is = tt
+delivered_sound tag DeliverReply is = tt
+delivered_sound tag Nothing is = tt
+delivered_sound tag (Any octets) is = tt
 
 sound_of : (c : Command) → IsOf (row_of c.id) c.fields → IsSound (heard_of c)
 sound_of c is =
@@ -107,7 +136,12 @@ sound_of c is =
           let short = foreign_short c.fields (subst (λ (n : ℕ). IsOf (row_of n) c.fields) id is) in
           rw reply (verdict_sound c.status (foreign_in c.fields) short)
       | inr other ↦
-          rw other (chosen IsSound (c.id == DELIVER_SM) _ _ (delivered_sound c.sequence c.fields) (told_sound c.id c.sequence c.status))
+          rw other (elim (cases_Bool (c.id == DELIVER_SM)) [
+            | inl delivery ↦
+                let id : c.id ≡ DELIVER_SM = eqb-true c.id DELIVER_SM delivery in
+                rw delivery (delivered_sound c.sequence c.fields (subst (λ (n : ℕ). IsOf (row_of n) c.fields) id is))
+            | inr none ↦ rw none (told_sound c.id c.sequence c.status)
+          ])
     ]
 
 -- ---- the grammar

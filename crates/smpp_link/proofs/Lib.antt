@@ -4,3 +4,4 @@ pub mod Headers
 pub mod Commands
 pub mod Frames
 pub mod Reading
+pub mod Receipts

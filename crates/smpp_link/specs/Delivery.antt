@@ -15,6 +15,7 @@ use Rattle.link_core.specs.declared.heard.Heard.{Heard}
 use Rattle.link_core.specs.declared.heard.Heard.TheVariants as heard
 use Rattle.link_core.specs.Arrivals.{arrival_of, address_of, body_of}
 use Rattle.link_core.specs.Dcs.{coding_in, class_in}
+use Rattle.smpp_link.specs.Receipts.{reported}
 
 -- ---- esm_class (5.2.12)
 
@@ -67,7 +68,7 @@ sms_with m parts =
 abbrev pub sms_of : MessageFields → Sms
 sms_of m = sms_with m (header_and_text m.esm_class m.short_message)
 
--- reports aren't served yet
+-- a report of the centre, or a message
 abbrev pub delivered : (tag : ℕ) → Fields → Heard
-delivered tag (Message m) = if is_report m.esm_class then heard.Strange tag DELIVER_SM else heard.Message tag (sms_of m)
+delivered tag (Message m) = if is_report m.esm_class then reported tag m.short_message m.tlvs else heard.Message tag (sms_of m)
 delivered tag fields = heard.Strange tag DELIVER_SM

@@ -1,4 +1,5 @@
 pub mod Delivery
 pub mod Hearing
+pub mod Receipts
 pub mod Saying
 pub mod Tags

@@ -4,9 +4,11 @@ ghost use Rattle.std.specs.Prelude.{◌≡◌, ◌≤◌, length, take, drop, If
 ghost use Rattle.std.specs.List.{flat_map};
 ghost use Rattle.gsm_alphabet.specs.Alphabet.{septets_of};
 ghost use Rattle.smpp_wire.specs.Command.{fields_of};
+ghost use Rattle.smpp_wire.specs.Grammar.{IsOf, row_of};
 ghost use Rattle.link_core.specs.Arrivals.{address_of, body_of};
 ghost use Rattle.smpp_link.specs.Delivery as spec;
 
+use crate::receipt::reported;
 use concat_split::read_udh;
 use gsm_alphabet::{CharsetFault, from_charset, to_gsm};
 use kn_base::{Charset, Memory, Octets};
@@ -144,11 +146,12 @@ fn contents_of(
     Ok((header, body))
 }
 
-/// What the body of a deliver_sm is heard as. A report of the centre is strange yet.
+/// What the body of a deliver_sm is heard as: a report of the centre, or a message.
 ///
 /// # Errors
 /// `Memory`.
 pub(crate) fn delivered(alloc: Global, tag: u32, body: &Body) -> Result<Heard, Memory>
+    requires { IsOf (row_of DELIVER_SM) (fields_of body.now) }
     ensures { IfOk result (λ heard. heard ≡ spec.delivered tag (fields_of body.now)) }
 {
     match *body {
@@ -160,8 +163,12 @@ pub(crate) fn delivered(alloc: Global, tag: u32, body: &Body) -> Result<Heard, M
             esm_class,
             data_coding,
             short_message,
+            tlvs,
             ..
-        } if !is_report(esm_class) => {
+        } => {
+            if is_report(esm_class) {
+                return reported(alloc, tag, short_message, tlvs);
+            }
             let (header, text) = header_and_text(esm_class, short_message);
             let parties = parties_of(alloc, source_ton, source, destination_ton, destination)?;
             let (header, body) = contents_of(alloc, data_coding, header, text)?;

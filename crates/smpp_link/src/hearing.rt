@@ -2,6 +2,7 @@
 
 ghost use Rattle.std.specs.Prelude.{◌≡◌, IfOk};
 ghost use Rattle.smpp_wire.specs.Command.{command_of, fields_of};
+ghost use Rattle.smpp_wire.specs.Grammar.{IsOf, row_of};
 ghost use Rattle.smpp_link.specs.Hearing as spec;
 
 use crate::delivery::delivered;
@@ -68,6 +69,7 @@ fn told(id: u32, tag: u32, status: u32) -> Heard
 /// # Errors
 /// `Memory`.
 pub(crate) fn heard_of(alloc: Global, pdu: &Pdu) -> Result<Heard, Memory>
+    requires { IsOf (row_of pdu.now.id) (fields_of pdu.now.body) }
     ensures { IfOk result (λ heard. heard ≡ spec.heard_of (command_of pdu.now)) }
 {
     match pdu.id {

@@ -9,6 +9,7 @@
 mod delivery;
 mod hearing;
 mod period;
+mod receipt;
 mod saying;
 mod smpp_core;
 mod status;

@@ -3,7 +3,7 @@
 ghost use Rattle.std.specs.Prelude.{◌≡◌, ◌<◌, ◌≤◌, ◌^◌, ◌==◌, not, ℕ, length, filter, IfOk};
 ghost use Rattle.route_rules.specs.declared.link_kind.LinkKind.TheVariants as kinds;
 ghost use Rattle.smpp_wire.specs.Command.{Bind, fields_of, command_of};
-ghost use Rattle.smpp_wire.specs.Grammar.{IsBind};
+ghost use Rattle.smpp_wire.specs.Grammar.{IsBind, IsOf, row_of};
 ghost use Rattle.config_groups.specs.Ranges.{IsLogin};
 ghost use Rattle.link_core.specs.declared.framed.Framed.TheVariants.{Whole};
 ghost use Rattle.link_core.specs.Grammar.{IsReadAs};
@@ -98,6 +98,7 @@ impl SmppCore {
 
 /// What is heard of a frame of so many octets.
 fn heard_whole(alloc: Global, pdu: &Pdu, len: usize) -> Result<Framed, Memory>
+    requires { IsOf (row_of pdu.now.id) (fields_of pdu.now.body) }
     ensures { IfOk result (λ framed. framed ≡ Whole (hearing.heard_of (command_of pdu.now)) len) }
 {
     match heard_of(alloc, pdu) {

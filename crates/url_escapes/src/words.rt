@@ -1,10 +1,32 @@
 //! The words that escapes use.
 
-ghost use Rattle.std.specs.Prelude.{◌≡◌, ◌++◌, drop, map, OnOk};
+ghost use Rattle.std.specs.Prelude.{◌≡◌, ◌++◌, drop, map, IfOk, OnOk};
 ghost use Rattle.url_escapes.specs.Value.{first_word, joined, tilde_octet, left_by};
+ghost use Rattle.url_escapes.specs.Words.{is_blank, words};
 
 use crate::escape::Escape;
-use kn_base::{Memory, Octets};
+use kn_base::{Items, Memory, Octets};
+use std::alloc::Global;
+
+/// Whether an octet separates words: a space, TAB, CR or LF.
+fn is_blank(octet: u8) -> bool
+    ensures { result ≡ is_blank octet }
+{
+    octet == b' ' || octet == b'\t' || octet == b'\r' || octet == b'\n'
+}
+
+/// The words of a text: what stands between runs of spaces, TABs, CRs and LFs. `Memory`.
+pub fn split_words(alloc: Global, text: &[u8]) -> Result<Items<Octets>, Memory>
+    ensures { IfOk result (λ found. found ≡ words text.now) }
+{
+    let mut found = Items::new(alloc);
+    for piece in text.split(|&octet| is_blank(octet)) {
+        if !piece.is_empty() {
+            found.push(Octets::from_slice(alloc, piece)?)?;
+        }
+    }
+    Ok(found)
+}
 
 /// The words behind the first.
 pub(crate) fn behind_first(words: &[Octets]) -> &[Octets]
@@ -25,7 +47,7 @@ pub(crate) fn left_by(unused: &[Octets], escape: Escape) -> &[Octets]
 }
 
 /// The first of some words, and nothing of none.
-pub(crate) fn first_word(words: &[Octets]) -> &[u8]
+pub fn first_word(words: &[Octets]) -> &[u8]
     ensures { result.now ≡ first_word words.now }
 {
     if words.is_empty() {

@@ -2,7 +2,7 @@
 
 ghost use Rattle.std.specs.Prelude.{◌≡◌, ◌+◌, ◌<◌, ◌≤◌, ◌^◌, ◌++◌, fold, map, vec_len};
 ghost use Rattle.numbered_table.specs.Pairs.{AllBelow, without};
-ghost use Rattle.gate_model.specs.Fold.{ends, unleased};
+ghost use Rattle.gate_model.specs.Fold.{ends, sms_of, unleased};
 ghost use Rattle.gate_model.specs.Gate.{model_of, IsGate, Becomes};
 ghost use Rattle.gate_model.specs.Numbers.{Has, numbered_from};
 
@@ -35,14 +35,20 @@ pub(crate) fn end_all(arrivals: &mut Table<Arrival>, numbers: &[u64])
 }
 
 impl Gate {
-    /// A message no longer waits, and its link, where one has taken it, has one less in flight.
-    pub(crate) fn end_message(&mut self, message: u64)
+    /// A message no longer waits, and its link, where one has taken it, has one less in flight. The message is handed out.
+    pub(crate) fn end_message(&mut self, message: u64) -> Option<Sms>
         requires whole { IsGate self.old }
         requires held { Has self.old.waiting.pairs message }
-        ensures { Becomes self.old self.new (ends message (model_of self.old)) }
+        ensures state { Becomes self.old self.new (ends message (model_of self.old)) }
+        ensures sms { result ≡ sms_of message (model_of self.old) }
+        ensures reports { self.new.reports ≡ self.old.reports }
     {
-        if let Some(waiting) = self.waiting.end(message) {
-            lower(&mut self.flight, waiting.lease);
+        match self.waiting.end(message) {
+            Some(waiting) => {
+                lower(&mut self.flight, waiting.lease);
+                Some(waiting.sms)
+            }
+            None => None,
         }
     }
 }

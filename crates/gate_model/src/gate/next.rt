@@ -1,12 +1,12 @@
 //! What comes next.
 
-ghost use Rattle.std.specs.Prelude.{◌≡◌, ◌<◌, length, find, option_map, None, Some};
+ghost use Rattle.std.specs.Prelude.{◌≡◌, ◌<◌, length, find, fold, option_map, None, Some};
 ghost use Rattle.numbered_table.specs.Rows.{pairs_of};
 ghost use Rattle.gate_model.specs.Gate.{model_of, rules_of, IsGate};
-ghost use Rattle.gate_model.specs.NextSteps.{offers, is_free};
+ghost use Rattle.gate_model.specs.NextSteps.{offers, is_free, better as better_row};
 ghost use Rattle.gate_model.specs.Routing.{may_take as may_go, goes_by, next, next_arrival, next_job, is_due};
 
-use crate::{Arrival, Gate, Waiting};
+use crate::{Arrival, Gate, Job, Waiting};
 use numbered_table::Row;
 use route_rules::assign;
 use sms_record::Sms;
@@ -37,6 +37,35 @@ fn first_free(rows: &[Row<Arrival>]) -> Option<u64>
         .map(|row| row.number)
 }
 
+/// Of a job, by its number and how often it was given back, and the one of a place, the one that was given back less often, and the first
+/// where both were as often. One that somebody has taken doesn't count.
+fn better(best: Option<(u64, u32)>, row: &Row<Job>) -> Option<(u64, u32)>
+    ensures { result ≡ better_row best row.now }
+{
+    match &row.value {
+        None => best,
+        Some(job) if job.leased => best,
+        Some(job) => match best {
+            Some((_, returns)) if returns <= job.returns => best,
+            _ => Some((row.number, job.returns)),
+        },
+    }
+}
+
+/// The number of the place whose job nobody has taken and that was given back least often.
+fn least_returned(rows: &[Row<Job>]) -> Option<u64>
+    ensures { result ≡ option_map (λ best. best.0) (fold better_row None rows.now) }
+{
+    let mut best = None;
+    for row in rows {
+        best = better(best, row);
+    }
+    match best {
+        Some((number, _)) => Some(number),
+        None => None,
+    }
+}
+
 impl Gate {
     /// The message that a link takes next: the least number of those that wait, that no link has taken, that may be sent by now, and
     /// that go by this link. `None` exactly where there is none. It takes no memory.
@@ -55,11 +84,12 @@ impl Gate {
         first_free(self.arrivals.rows())
     }
 
-    /// The job that is called next. As yet there is none.
+    /// The job that is called next: of those that nobody has taken, the one that was given back least often, and of these the least number.
+    /// `None` exactly where there is none. It takes no memory.
     pub fn next_job(&self) -> Option<u64>
         ensures { result ≡ next_job (model_of self.now) }
     {
-        None
+        least_returned(self.jobs.rows())
     }
 
     /// The number of the first place whose message a link may take.

@@ -1,7 +1,7 @@
 //! Entries that pass.
 
 ghost use Rattle.std.specs.Prelude.{◌≡◌, slice_set};
-ghost use Rattle.gate_model.specs.Fold.{passing, does};
+ghost use Rattle.gate_model.specs.Fold.{passes};
 ghost use Rattle.gate_model.specs.Gate.{model_of, rules_of, IsGate, Becomes};
 ghost use Rattle.gate_model.specs.Lawful.{MayPass};
 
@@ -16,7 +16,7 @@ impl Gate {
         requires lawful { MayPass (rules_of self.old) (model_of self.old) entry }
         ensures whole { IsGate self.new }
         ensures rules { rules_of self.new ≡ rules_of self.old }
-        ensures state { model_of self.new ≡ does (model_of self.old) (passing entry) }
+        ensures state { model_of self.new ≡ passes entry (model_of self.old) }
     {
         match entry {
             Passing::Up { link } => self.set_link(link, true),
@@ -25,7 +25,8 @@ impl Gate {
             Passing::Returned { message } => self.return_message(message),
             Passing::TookArrival { arrival } => self.lease_arrival(arrival, true),
             Passing::ReturnedArrival { arrival } => self.lease_arrival(arrival, false),
-            Passing::TookJob { .. } | Passing::ReturnedJob { .. } => {}
+            Passing::TookJob { job } => self.take_job(job),
+            Passing::ReturnedJob { job } => self.return_job(job),
         }
     }
 

@@ -1,67 +1,53 @@
 //! Entries that are recorded.
 
-ghost use Rattle.std.specs.Prelude.{◌≡◌, ◌<◌, ◌≤◌, ◌+◌, true, false, length, IfOk, IfErr, OnOk};
+ghost use Rattle.std.specs.Prelude.{◌≡◌, ◌<◌, ◌≤◌, ◌+◌, true, length};
 ghost use Rattle.gate_entries.specs.declared.limits.TheConstants.{MOST_MESSAGES};
-ghost use Rattle.gate_model.specs.Fold.{recorded, does, counts_entry, accepts, answers, arrives, acknowledges, rejects, misses};
-ghost use Rattle.gate_model.specs.Gate.{model_of, rules_of, birth_of, entry_of, IsGate, Becomes, HasRoom, KeepsAll};
+ghost use Rattle.gate_model.specs.Fold.{recorded, does, moves, counts_entry, accepts, answers, arrives};
+ghost use Rattle.gate_model.specs.Gate.{model_of, rules_of, birth_of, entry_of, IsGate, Becomes, HasRoom, HasRoomFor};
 ghost use Rattle.gate_model.specs.Lawful.{IsSound, most_entries};
-ghost use Rattle.gate_model.specs.Numbers.{Has};
 ghost use Rattle.gate_model.specs.Replies.{reply_to, is_queued as queued_first};
 
 use crate::gate::messages::{end_all, put_messages};
 use crate::{Arrival, Gate, Ready, Reply};
 use gate_entries::{Answered, Recorded};
-use kn_base::{Items, Memory};
+use kn_base::Items;
 use route_rules::assign;
 use sms_record::Sms;
 
 /// What is replied to an entry that belongs to a message.
-const MATCHED: Reply = Reply::Noted { matched: true };
+pub(crate) const MATCHED: Reply = Reply::Noted { matched: true };
 
 impl Gate {
-    /// Takes all memory that an entry needs. What the gate holds stays; after `Memory` the entry is given back.
-    pub fn prepare(&mut self, entry: Recorded, birth: u64) -> Result<Ready, (Recorded, Memory)>
-        ensures entry { IfOk result (λ ready. entry_of ready ≡ entry) }
-        ensures birth { IfOk result (λ ready. birth_of ready ≡ birth) }
-        ensures room { OnOk result (HasRoom self.new entry) }
-        ensures state { KeepsAll self.old self.new }
-        ensures err { IfErr result (λ back. back.0 ≡ entry) }
-    {
-        match self.reserve(&entry) {
-            Ok(()) => Ok(Ready { entry, birth }),
-            Err(Memory) => Err((entry, Memory)),
-        }
-    }
-
-    /// Takes the memory that an entry needs.
-    fn reserve(&mut self, entry: &Recorded) -> Result<(), Memory>
-        ensures room { OnOk result (HasRoom self.new entry.now) }
-        ensures state { KeepsAll self.old self.new }
-    {
-        match entry {
-            Recorded::Accept(accept) => self.waiting.reserve(accept.parts.len()),
-            Recorded::Answered(answered) => self.waiting.reserve(answered.parts.len()),
-            Recorded::Arrived(_) => self.arrivals.reserve(1),
-            Recorded::Acked(_)
-            | Recorded::Rejected(_)
-            | Recorded::Reported(_)
-            | Recorded::Called(_)
-            | Recorded::CallDropped(_) => Ok(()),
-        }
-    }
-
     /// Does an entry that is recorded, and says what is replied to it. It takes no memory.
     pub fn apply(&mut self, ready: Ready) -> Reply
         requires whole { IsGate self.old }
-        requires room { HasRoom self.old (entry_of ready) }
+        requires room { HasRoom self.old ready }
         requires few { (model_of self.old).entries < most_entries }
         requires sound { IsSound (model_of self.old) (entry_of ready) }
         ensures whole { IsGate self.new }
         ensures rules { rules_of self.new ≡ rules_of self.old }
-        ensures state { model_of self.new ≡ does (model_of self.old) (recorded (entry_of ready)) }
+        ensures state { model_of self.new ≡ does (birth_of ready) (model_of self.old) (recorded (entry_of ready)) }
         ensures reply { result ≡ reply_to (rules_of self.old) (model_of self.old) (entry_of ready) }
     {
-        let Ready { entry, birth: _ } = ready;
+        let Ready {
+            entry,
+            birth: _,
+            url,
+        } = ready;
+        let reply = self.move_by(entry);
+        self.call(url);
+        reply
+    }
+
+    /// Does an entry that is recorded, but for the URL that it calls.
+    fn move_by(&mut self, entry: Recorded) -> Reply
+        requires whole { IsGate self.old }
+        requires room { HasRoomFor self.old entry }
+        requires few { (model_of self.old).entries < most_entries }
+        requires sound { IsSound (model_of self.old) entry }
+        ensures state { Becomes self.old self.new (counts_entry (moves entry (model_of self.old))) }
+        ensures reply { result ≡ reply_to (rules_of self.old) (model_of self.old) entry }
+    {
         match entry {
             Recorded::Accept(accept) => {
                 let queued = self.is_queued(accept.parts.as_slice());
@@ -72,10 +58,11 @@ impl Gate {
                 self.answer(answered, queued)
             }
             Recorded::Arrived(arrived) => self.arrive(arrived.sms),
-            Recorded::Acked(acked) => self.acknowledge(acked.message),
+            Recorded::Acked(acked) => self.acknowledge(&acked),
             Recorded::Rejected(rejected) => self.reject(rejected.message),
-            Recorded::Reported(_) => self.hear_report(),
-            Recorded::Called(_) | Recorded::CallDropped(_) => unreachable!(),
+            Recorded::Reported(reported) => self.hear_report(&reported),
+            Recorded::Called(called) => self.end_called(called.job),
+            Recorded::CallDropped(dropped) => self.end_dropped(dropped.job),
         }
     }
 
@@ -148,45 +135,5 @@ impl Gate {
         self.counts.arrived += 1;
         self.counts.entries += 1;
         MATCHED
-    }
-
-    /// A centre took a message.
-    fn acknowledge(&mut self, message: u64) -> Reply
-        requires whole { IsGate self.old }
-        requires few { (model_of self.old).entries < most_entries }
-        requires held { Has self.old.waiting.pairs message }
-        ensures state { Becomes self.old self.new (counts_entry (acknowledges message (model_of self.old))) }
-        ensures reply { result ≡ Reply.Noted true }
-    {
-        self.end_message(message);
-        self.counts.acked += 1;
-        self.counts.entries += 1;
-        MATCHED
-    }
-
-    /// A message was given up.
-    fn reject(&mut self, message: u64) -> Reply
-        requires whole { IsGate self.old }
-        requires few { (model_of self.old).entries < most_entries }
-        requires held { Has self.old.waiting.pairs message }
-        ensures state { Becomes self.old self.new (counts_entry (rejects message (model_of self.old))) }
-        ensures reply { result ≡ Reply.Noted true }
-    {
-        self.end_message(message);
-        self.counts.rejected += 1;
-        self.counts.entries += 1;
-        MATCHED
-    }
-
-    /// A centre reported on a message. As yet no report is awaited, so it belongs to none.
-    fn hear_report(&mut self) -> Reply
-        requires whole { IsGate self.old }
-        requires few { (model_of self.old).entries < most_entries }
-        ensures state { Becomes self.old self.new (counts_entry (misses (model_of self.old))) }
-        ensures reply { result ≡ Reply.Noted false }
-    {
-        self.counts.unmatched += 1;
-        self.counts.entries += 1;
-        Reply::Noted { matched: false }
     }
 }

@@ -70,7 +70,8 @@ impl Gate {
             Recorded::Answered(answered) => {
                 self.are_arrivals(answered.arrivals.as_slice()) && is_time(answered.time)
             }
-            Recorded::Called(_) | Recorded::CallDropped(_) => false,
+            Recorded::Called(called) => self.holds_job(called.job),
+            Recorded::CallDropped(dropped) => self.holds_job(dropped.job),
         }
     }
 
@@ -78,6 +79,12 @@ impl Gate {
         ensures { result ≡ is_held message (model_of self.now).waiting }
     {
         self.waiting.get(message).is_some()
+    }
+
+    fn holds_job(&self, job: u64) -> bool
+        ensures { result ≡ is_held job (model_of self.now).jobs }
+    {
+        self.jobs.get(job).is_some()
     }
 
     fn holds_arrival(&self, arrival: u64) -> bool

@@ -1,16 +1,16 @@
-//! The next message of a link.
+//! The next message of a link, and the next job.
 
 ghost use Rattle.std.specs.Prelude.{◌≡◌, ◌<◌, ◌^◌, true, false, Some};
 ghost use Rattle.gate_model.specs.Gate.{HaveIds};
 ghost use Rattle.gate_model.specs.Lawful.{is_expired};
-ghost use Rattle.gate_model.specs.Routing.{next};
-ghost use Rattle.gate_store.specs.Deeds.{Takes, TakesMessage};
+ghost use Rattle.gate_model.specs.Routing.{next, next_job};
+ghost use Rattle.gate_store.specs.Deeds.{Takes, TakesMessage, TakesNextJob, TakesThisJob};
 ghost use Rattle.gate_store.specs.Store.{IsOpen, rules_in, state_in};
 
 use crate::{Store, Taken};
 use gate_entries::{Cause, Passing, Recorded, Rejected};
 use gate_model::Refusal;
-use kn_base::Octets;
+use kn_base::{Memory, Octets};
 use sms_record::copy_sms;
 use store_disk::Disk;
 
@@ -76,5 +76,34 @@ impl<D: Disk> Store<D> {
             time: now,
         });
         Ok(Some(Taken::Send { message, sms }))
+    }
+
+    /// The next job, which is taken: its number, its URL, and how often it was given back since the store was opened.
+    ///
+    /// `None` exactly where no job is free. It is the one that was given back least often, and of these the least number. `Memory`, and then
+    /// nothing has changed. No disk call is made.
+    pub fn take_job(&mut self) -> Result<Option<(u64, Octets, u32)>, Memory>
+        requires kept { IsOpen D.tells D.story self.old }
+        ensures { TakesNextJob D.tells D.story D.faults D.calls self.old result self.new }
+    {
+        match self.gate.next_job() {
+            Some(job) => self.hand_out(job),
+            None => Ok(None),
+        }
+    }
+
+    // Hands out a job, which is taken.
+    fn hand_out(&mut self, job: u64) -> Result<Option<(u64, Octets, u32)>, Memory>
+        requires kept { IsOpen D.tells D.story self.old }
+        requires next { next_job (state_in self.old) ≡ Some job }
+        ensures { TakesThisJob D.tells D.story D.faults D.calls self.old job result self.new }
+    {
+        let Some(url) = self.gate.job(job) else {
+            unreachable!();
+        };
+        let url = Octets::from_slice(self.alloc, url)?;
+        let tries = self.gate.tries(job);
+        self.pass(Passing::TookJob { job });
+        Ok(Some((job, url, tries)))
     }
 }

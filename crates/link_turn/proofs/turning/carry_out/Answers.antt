@@ -27,7 +27,7 @@ fulfil-requires-clause-may g c =
     let core = g.C.LinkCore in
     let disk = g.D.Disk in
     let w = c.loop-given.invariant.wishes in
-    (may_do core.hears core.refuses core.said w.core w.terms disk.tells disk.story c.loop-given.store c.loop-given.wish w.talk c.loop-given.session c.requires.no_reports w.stands w.entry w.in_time
+    (may_do core.hears core.refuses core.said w.core w.terms disk.tells disk.story c.loop-given.store c.loop-given.wish w.talk c.loop-given.session w.stands w.entry w.in_time
     w.sound.well.in_time w.opened w.of).0
 
 pub next-wish-requires-clause-fits : goal.next-wish-requires-clause-fits
@@ -55,7 +55,7 @@ loop-given-smaller g c =
     let d = c.in-Ok.ensures.ok in
     let cd = comes_done disk.tells disk.story disk.faults disk.calls c.link.result c.args.stop c.loop-given.wish c.in-Ok.given (course c.loop-given.peer) (course c.fulfil.new.peer) c.loop-given.store c.fulfil.new.store d in
     let on = c.next-wish.ensures.law w.core w.terms w.talk c.loop-given.wish cd.0 w.stands cd.1.may in
-    let one = (may_do core.hears core.refuses core.said w.core w.terms disk.tells disk.story c.loop-given.store c.loop-given.wish w.talk c.loop-given.session c.requires.no_reports w.stands w.entry w.in_time
+    let one = (may_do core.hears core.refuses core.said w.core w.terms disk.tells disk.story c.loop-given.store c.loop-given.wish w.talk c.loop-given.session w.stands w.entry w.in_time
     w.sound.well.in_time w.opened w.of).1 in
     falls disk.tells disk.story disk.faults disk.calls core.hears core.refuses core.said w.core w.terms c.link.result c.args.stop c.loop-given.wish c.in-Ok.given w.talk on.later c.loop-given.session c.next-wish.new.self
     c.next-wish.result (course c.loop-given.peer) (course c.fulfil.new.peer) c.loop-given.store c.fulfil.new.store w.stands d one w.opened w.sound.well.in_time c.next-wish.ensures.lighter c.next-wish.ensures.ends on.stands
@@ -77,7 +77,7 @@ loop-given-preserved g c =
           (sym c.now.ensures.latest)
           (wishes_on disk.tells disk.story disk.faults disk.calls core.hears core.refuses core.said core.tags core.next_tag core.holds core.kind c.args.stop c.loop-given.wish c.next-wish.result c.in-Ok.given
           c.loop-given.session c.next-wish.new.self (course c.loop-given.peer) (course c.fulfil.new.peer) c.loop-given.store c.fulfil.new.store (g.K.Clock.latest c.loop-given.clock) c.now.result c.link.result w
-          c.requires.no_reports d c.link.ensures c.now.ensures.range c.next-wish.ensures.session c.next-wish.ensures.entry latest_now c.next-wish.ensures.law);
+          d c.link.ensures c.now.ensures.range c.next-wish.ensures.session c.next-wish.ensures.entry latest_now c.next-wish.ensures.law);
       terms = kept.0 ∙ i.terms;
       rules = kept.1 ∙ i.rules;
       counts = moves disk.tells disk.story disk.faults disk.calls core.hears core.refuses core.said w.core w.terms c.link.result c.args.stop c.loop-given.wish c.in-Ok.given w.talk c.loop-given.session c.next-wish.new.self

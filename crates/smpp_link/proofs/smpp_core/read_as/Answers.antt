@@ -1,6 +1,9 @@
 use Rattle.smpp_link.proofs.Reading.{whole_answered, more_read, bad_read}
 use Rattle.smpp_link.proofs.smpp_core.read_as.Goals as goal
 
+pub heard_whole-requires : goal.heard_whole-requires
+heard_whole-requires c = c.in-Whole.ensures.told.0.fields
+
 pub returns-in-Whole : goal.returns-in-Whole
 returns-in-Whole c = whole_answered c.args.octets.now c.in-Whole.pdu c.in-Whole.len c.heard_whole.result c.in-Whole.ensures c.heard_whole.ensures
 

@@ -1,4 +1,4 @@
-use Rattle.std.proofs.Common.{refl, ◌+◌}
+use Rattle.std.proofs.Common.{arith, refl, ◌+◌}
 use Rattle.gate_model.specs.Gate.{model_of}
 use Rattle.gate_model.proofs.NumberLemmas.{AllBelow-Rise}
 use Rattle.gate_model.proofs.PutLemmas.{accepted-state}
@@ -10,6 +10,6 @@ put_messages-requires-clause-above c = AllBelow-Rise 1 (c.args.self.now.counts.l
 
 pub returns-clause-state : goal.returns-clause-state
 returns-clause-state c =
-    becomes _ _ _ _ refl refl
+    becomes _ _ _ _ refl refl (omega arith)
     (accepted-state (model_of c.args.self.now) c.args.parts c.into_vec.result.items c.put_messages.new.waiting.pairs c.len-count.result c.put_messages.ensures c.into_vec.ensures c.len-count.ensures)
     (whole-accepts _ _ _ c.requires.whole c.args.parts c.requires.few c.requires.short)

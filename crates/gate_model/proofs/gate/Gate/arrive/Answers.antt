@@ -1,4 +1,4 @@
-use Rattle.std.proofs.Common.{refl, ap, ◌+◌}
+use Rattle.std.proofs.Common.{arith, refl, ap, ◌+◌}
 use Rattle.gate_model.specs.Gate.{model_of}
 use Rattle.gate_model.specs.Fold.{counts_entry, arrives}
 use Rattle.gate_model.proofs.NumberLemmas.{AllBelow-Rise}
@@ -10,5 +10,5 @@ push-requires-clause-above c = AllBelow-Rise 1 (c.args.self.now.counts.last_arri
 
 pub returns-clause-state : goal.returns-clause-state
 returns-clause-state c =
-    becomes _ _ _ _ refl refl (ap (λ ps. record (counts_entry (arrives c.args.sms (model_of c.args.self.now))) { arrivals = ps }) c.push.ensures.pairs)
+    becomes _ _ _ _ refl refl (omega arith) (ap (λ ps. record (counts_entry (arrives c.args.sms (model_of c.args.self.now))) { arrivals = ps }) c.push.ensures.pairs)
     (whole-arrives _ _ _ c.requires.whole c.args.sms c.requires.few)

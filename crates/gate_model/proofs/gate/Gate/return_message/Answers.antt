@@ -1,4 +1,4 @@
-use Rattle.std.proofs.Common.{refl, ap, ◌∙◌}
+use Rattle.std.proofs.Common.{arith, refl, ap, ◌∙◌}
 use Rattle.gate_model.specs.Gate.{model_of}
 use Rattle.std.specs.Option.{option_and_then}
 use Rattle.gate_model.specs.Links.{lowered}
@@ -10,5 +10,6 @@ returns c =
     let held = some_value _ c.requires.held in
     becomes _ _ _ _ refl
     (c.lower.ensures ∙ ap (λ lease. lowered lease c.args.self.now.flight.items) (c.put_lease-was.ensures.was ∙ ap (option_and_then (λ w. w.lease)) held.1))
+    (omega arith)
     (ap (λ ps. record (model_of c.args.self.now) { waiting = ps }) c.put_lease-was.ensures.pairs)
     (whole-returned _ _ _ c.requires.whole c.args.message held.0 held.1)

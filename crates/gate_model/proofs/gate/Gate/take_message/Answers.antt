@@ -11,5 +11,5 @@ raise-requires c =
 pub returns : goal.returns
 returns c =
     let held = some_value_and _ _ c.requires.free in
-    becomes _ _ _ _ refl c.raise.ensures (ap (λ ps. record (model_of c.args.self.now) { waiting = ps }) c.put_lease.ensures.pairs)
+    becomes _ _ _ _ refl c.raise.ensures (omega arith) (ap (λ ps. record (model_of c.args.self.now) { waiting = ps }) c.put_lease.ensures.pairs)
     (whole-taken _ _ _ c.requires.whole c.args.message c.args.link held.0 held.1 held.2)

@@ -1,5 +1,7 @@
 use Rattle.std.proofs.Common.{Some, Ok, Err, refl, true, false, ap, sym, ◌∙◌}
+use Rattle.gate_model.specs.Fold.{does, recorded}
 use Rattle.gate_model.specs.Gate.{entry_of}
+use Rattle.gate_store.specs.Store.{state_in}
 use Rattle.gate_store.proofs.Committing.{appends_as, commits_ok, commits_err}
 use Rattle.gate_store.proofs.store.Store.append.Goals as goal
 
@@ -14,7 +16,7 @@ returns-in-Ok g c =
     let new = record old { journal = a.new.self; gate = c.apply.new.self } in
     commits_ok tells story faults calls old new (entry_of c.args.ready) c.requires.kept c.requires.sure c.requires.reserved c.requires.may c.requires.few
     c.apply.ensures.rules a.ensures.birth a.ensures.ended c.apply.ensures.whole a.ensures.faults a.ensures.calls
-    tt c.apply.result (appends_as tells story old.journal a.new.self a.result (Ok tt) c.in-Ok.is a.ensures.appended) c.requires.sure c.apply.ensures.state c.apply.ensures.reply c.in-Ok.ensures.unfailed
+    tt c.apply.result (appends_as tells story old.journal a.new.self a.result (Ok tt) c.in-Ok.is a.ensures.appended) c.requires.sure (c.apply.ensures.state ∙ ap (λ b. does b (state_in old) (recorded (entry_of c.args.ready))) c.requires.born) c.apply.ensures.reply c.in-Ok.ensures.unfailed
 
 pub returns-then-unsure : goal.returns-then-unsure
 returns-then-unsure g c =

@@ -3,7 +3,7 @@ use Rattle.std.specs.Bool.{OnTrue}
 use Rattle.store_disk.specs.Disk.{Areas}
 use Rattle.store_disk.specs.Story.{IsImage}
 use Rattle.gate_store.specs.Reopening.{MayReopen, MayStandFor}
-use Rattle.gate_store.specs.Store.{rules_in, state_in, unsure_in}
+use Rattle.gate_store.specs.Store.{birth_in, rules_in, state_in, unsure_in}
 use Rattle.gate_store.proofs.Recording.{stops_now}
 use Rattle.gate_store.proofs.Standing.{stands_now}
 use Rattle.gate_store.proofs.store.Store.close.Goals as goal
@@ -17,5 +17,5 @@ returns-clause-stands g c = λ birth entries is.
 pub returns-clause-stops : goal.returns-clause-stops
 returns-clause-stops g c = λ birth entries is.
     let store = c.args.self in
-    subst (λ d. OnTrue g.D.Disk.tells ((image : Areas) → IsImage (g.D.Disk.story d) image → MayReopen (rules_in store) (state_in store) (unsure_in store) image)) (sym c.close.ensures.disk)
+    subst (λ d. OnTrue g.D.Disk.tells ((image : Areas) → IsImage (g.D.Disk.story d) image → MayReopen (birth_in store) (rules_in store) (state_in store) (unsure_in store) image)) (sym c.close.ensures.disk)
     (stops_now g.D.Disk.tells g.D.Disk.story store birth entries is)

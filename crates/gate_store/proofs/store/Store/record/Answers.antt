@@ -1,8 +1,13 @@
 use Rattle.std.proofs.Common.{refl, subst}
 use Rattle.gate_entries.specs.declared.recorded.Recorded.{Recorded}
+use Rattle.gate_model.proofs.SoundLaws.{timed_where_suits}
 use Rattle.gate_store.specs.Deeds.{Performs}
+use Rattle.gate_store.specs.Store.{state_in}
 use Rattle.gate_store.proofs.Recording.{performed_on, prepared_on, unremembered}
 use Rattle.gate_store.proofs.store.Store.record.Goals as goal
+
+pub prepare-requires : goal.prepare-requires
+prepare-requires g c = record { timed = timed_where_suits (state_in c.args.self.now) c.args.entry c.requires.may.sound.1 }
 
 pub commit-requires-clause-kept : goal.commit-requires-clause-kept
 commit-requires-clause-kept g c =

@@ -1,0 +1,18 @@
+use Rattle.std.proofs.Common.{◌≡◌, ◌<◌, true, false, sym, ap, ◌∙◌, subst}
+use Rattle.dlr_table.specs.Reports.{spare}
+use Rattle.gate_model.proofs.AwaitedLemmas.{keeps_reports, on_ok_weaker}
+use Rattle.gate_model.proofs.gate.Gate.reserve_report.Goals as goal
+
+pub returns-then-is_report_awaited-clause-room : goal.returns-then-is_report_awaited-clause-room
+returns-then-is_report_awaited-clause-room c =
+    on_ok_weaker c.reserve.result _ _
+    (λ room asked. subst (λ s. 0 < spare c.reserve.new.self s c.args.acked.now.foreign) c.as_slice-smsc.ensures
+    (subst (λ f. 0 < spare c.reserve.new.self c.as_slice-smsc.result.now f) c.as_slice-foreign.ensures room))
+    c.reserve.ensures.ok
+
+pub returns-then-is_report_awaited-clause-state : goal.returns-then-is_report_awaited-clause-state
+returns-then-is_report_awaited-clause-state c = keeps_reports c.args.self.now c.reserve.new.self c.reserve.ensures.lists c.reserve.ensures.count
+
+pub returns-else-is_report_awaited-clause-room : goal.returns-else-is_report_awaited-clause-room
+returns-else-is_report_awaited-clause-room c = λ asked.
+    absurd (let contrary : true ≡ false = sym asked ∙ sym c.is_report_awaited.ensures ∙ c.if-is_report_awaited.false in cc)
