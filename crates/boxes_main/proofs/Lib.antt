@@ -9,7 +9,6 @@ pub mod LinkEnding
 pub mod LinkKept
 pub mod LinkServing
 pub mod LinkTurns
-pub mod NoReports
 pub mod OpeningLemmas
 pub mod Printed
 pub mod Sessions

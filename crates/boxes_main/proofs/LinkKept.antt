@@ -41,14 +41,15 @@ use Rattle.boxes_main.proofs.Sessions.{ClosesAs, ClosesTo, found_by, opened_stop
 alike_to : (rules : Rules) (s t : State) (image : Areas) → settle s ≡ settle t → ReopensTo rules s image → ReopensTo rules t image
 alike_to rules s t image same is = subst (λ (x : State). Reopens rules image x) same is
 
-alike_with : (s t : State) (kept : Recorded) → settle s ≡ settle t → settle (does s (recorded kept)) ≡ settle (does t (recorded kept))
-alike_with s t kept same = settle-does s kept ∙ ap (λ (x : State). does x (recorded kept)) same ∙ sym (settle-does t kept)
+alike_with : (birth : ℕ) (s t : State) (kept : Recorded) → settle s ≡ settle t → settle (does birth s (recorded kept)) ≡ settle (does birth t (recorded kept))
+alike_with birth s t kept same = settle-does birth s kept ∙ ap (λ (x : State). does birth x (recorded kept)) same ∙ sym (settle-does birth t kept)
 
-alike_may : (rules : Rules) (s t : State) (unsure : Option Recorded) (image : Areas) → settle s ≡ settle t → MayReopen rules s unsure image → MayReopen rules t unsure image
-alike_may rules s t None image same is = alike_to rules s t image same is
-alike_may rules s t (Some kept) image same is =
+alike_may : (birth : ℕ) (rules : Rules) (s t : State) (unsure : Option Recorded) (image : Areas) → settle s ≡ settle t
+    → MayReopen birth rules s unsure image → MayReopen birth rules t unsure image
+alike_may birth rules s t None image same is = alike_to rules s t image same is
+alike_may birth rules s t (Some kept) image same is =
     ⊎_elim (λ without. inl (alike_to rules s t image same without))
-    (λ with_it. inr (alike_to rules (does s (recorded kept)) (does t (recorded kept)) image (alike_with s t kept same) with_it)) is
+    (λ with_it. inr (alike_to rules (does birth s (recorded kept)) (does birth t (recorded kept)) image (alike_with birth s t kept same) with_it)) is
 
 -- ---- what a deed moves
 
@@ -56,6 +57,7 @@ module _ {D : Type 0} (tells : Bool) (story : D → Story) (faults calls : D →
   -- nothing was recorded, and the disk wasn't asked
   record Stays (deed : Deed) (old new : Store D) : Type 0 where
     pub ruled : rules_in new ≡ rules_in old
+    pub born : birth_in new ≡ birth_in old
     pub disk : disk_in new ≡ disk_in old
     pub unsure : unsure_in new ≡ unsure_in old
     pub holds : (birth : ℕ) (entries : List Recorded) → IsStore tells story old birth entries → IsStore tells story new birth entries
@@ -73,6 +75,7 @@ module _ {D : Type 0} (tells : Bool) (story : D → Story) (faults calls : D →
   same_stays : (deed : Deed) (old new : Store D) → new ≡ old → recorded_by rules link deed ≡ [] → Stays deed old new
   same_stays deed old new same none = record {
     ruled = ap rules_in same;
+    born = ap birth_in same;
     disk = ap disk_in same;
     unsure = ap unsure_in same;
     holds = λ birth entries is. subst (λ s. IsStore tells story s birth entries) (sym same) is;
@@ -80,7 +83,7 @@ module _ {D : Type 0} (tells : Bool) (story : D → Story) (faults calls : D →
   }
 
   passes_stays : (deed : Deed) (old new : Store D) (brief : Passing) → Passes tells story faults calls old brief new → recorded_by rules link deed ≡ [] → Stays deed old new
-  passes_stays deed old new brief is none = record { ruled = is.ruled; disk = is.disk; unsure = is.unsure; holds = is.holds; none = none }
+  passes_stays deed old new brief is none = record { ruled = is.ruled; born = is.born; disk = is.disk; unsure = is.unsure; holds = is.holds; none = none }
 
   withheld : (late : Bool) (old new : Store D) (now message : ℕ) (refusal : Refusal) → rules_in old ≡ rules
       → Withholds tells story faults calls late old link now message refusal new → Stays (took now (Err refusal)) old new ⊎ Moves (took now (Err refusal)) old new
@@ -128,9 +131,9 @@ module _ {D : Type 0} (tells : Bool) (story : D → Story) (faults calls : D →
       ⊎_elim (λ is. inl is)
       (λ is. inr (record { since = deed ∷ is.since; deed = is.deed; split = ap (λ ds. deed ∷ ds) is.split; asked = is.asked })) doubt
 
-  still_amid : (entries : List Recorded) (deeds : List Deed) (deed : Deed) (image : Areas)
-      → ReopensAmid rules link entries deeds image → ReopensAmid rules link entries (deed ∷ deeds) image
-  still_amid entries deeds deed image is = record {
+  still_amid : (birth : ℕ) (entries : List Recorded) (deeds : List Deed) (deed : Deed) (image : Areas)
+      → ReopensAmid rules link birth entries deeds image → ReopensAmid rules link birth entries (deed ∷ deeds) image
+  still_amid birth entries deeds deed image is = record {
     front = is.front;
     since = deed ∷ is.since;
     split = ap (λ ds. deed ∷ ds) is.split;
@@ -194,12 +197,13 @@ module _ {D : Type 0} (tells : Bool) (story : D → Story) (faults calls : D →
       subst (λ (u : Option Recorded). IfSome u (λ _. Rose 0 new)) (sym leaves) (rose_on before old new counts was)
 
   -- a stop in the call of a deed
-  in_call : (entries : List Recorded) (deeds : List Deed) (deed : Deed) (ruled : Rules) (state : State) (unsure : Option Recorded) (kept : Recorded) → ruled ≡ rules
-      → settle state ≡ state_of rules (entries ++ recorded_in rules link deeds) → IfSome unsure (IsInDoubt rules link deeds) → Asks rules link deed kept
-      → (image : Areas) → MayReopenIn ruled state unsure kept image → ReopensAmid rules link entries (deed ∷ deeds) image
-  in_call entries deeds deed ruled state unsure kept same settled doubt asked image may =
-      let there = state_of rules (entries ++ recorded_in rules link deeds) in
-      let alike : settle state ≡ settle there = settled ∙ sym (settle-state_of rules (entries ++ recorded_in rules link deeds)) in
+  in_call : (birth : ℕ) (entries : List Recorded) (deeds : List Deed) (deed : Deed) (born : ℕ) (ruled : Rules) (state : State) (unsure : Option Recorded) (kept : Recorded)
+      → born ≡ birth → ruled ≡ rules
+      → settle state ≡ state_of birth rules (entries ++ recorded_in rules link deeds) → IfSome unsure (IsInDoubt rules link deeds) → Asks rules link deed kept
+      → (image : Areas) → MayReopenIn born ruled state unsure kept image → ReopensAmid rules link birth entries (deed ∷ deeds) image
+  in_call birth entries deeds deed born ruled state unsure kept twin same settled doubt asked image may =
+      let there = state_of birth rules (entries ++ recorded_in rules link deeds) in
+      let alike : settle state ≡ settle there = settled ∙ sym (settle-state_of birth rules (entries ++ recorded_in rules link deeds)) in
       ⊎_elim
       (λ before. record {
         front = deeds;
@@ -207,7 +211,8 @@ module _ {D : Type 0} (tells : Bool) (story : D → Story) (faults calls : D →
         split = refl;
         more = unsure;
         doubt = in_doubt unsure doubt;
-        reopens = alike_may rules state there unsure image alike (subst (λ (r : Rules). MayReopen r state unsure image) same before);
+        reopens = alike_may birth rules state there unsure image alike (subst (λ (r : Rules). MayReopen birth r state unsure image) same
+            (subst (λ b. MayReopen b ruled state unsure image) twin before));
       })
       (λ with_it. record {
         front = deeds;
@@ -215,8 +220,9 @@ module _ {D : Type 0} (tells : Bool) (story : D → Story) (faults calls : D →
         split = refl;
         more = Some kept;
         doubt = inr (record { since = []; deed = deed; split = refl; asked = asked });
-        reopens = inr (alike_to rules (does state (recorded kept)) (does there (recorded kept)) image (alike_with state there kept alike)
-            (subst (λ (r : Rules). ReopensTo r (does state (recorded kept)) image) same with_it));
+        reopens = inr (alike_to rules (does birth state (recorded kept)) (does birth there (recorded kept)) image (alike_with birth state there kept alike)
+            (subst (λ (r : Rules). ReopensTo r (does birth state (recorded kept)) image) same
+            (subst (λ b. ReopensTo ruled (does b state (recorded kept)) image) twin with_it)));
       })
       may
     where
@@ -230,9 +236,10 @@ module _ {D : Type 0} (tells : Bool) (story : D → Story) (faults calls : D →
     -- a store behind deeds
     record Behind (deeds : List Deed) (store : Store D) : Type 0 where
       pub ruled : rules_in store ≡ rules
+      pub born : birth_in store ≡ birth
       pub holds : IsStore tells story store birth (entries ++ recorded_in rules link deeds)
       pub doubt : IfSome (unsure_in store) (IsInDoubt rules link deeds)
-      pub amid : OnTrue tells (LeavesOnly first (story (disk_in store)) (ReopensAmid rules link entries deeds))
+      pub amid : OnTrue tells (LeavesOnly first (story (disk_in store)) (ReopensAmid rules link birth entries deeds))
       pub rose : IfSome (unsure_in store) (λ _. Rose 0 (faults (disk_in store)))
       pub bounded : calls (disk_in store) ≤ made + 6 * length deeds
 
@@ -246,13 +253,14 @@ module _ {D : Type 0} (tells : Bool) (story : D → Story) (faults calls : D →
         let same : calls (disk_in new) ≡ calls (disk_in old) = ap calls stays.disk in
         record {
           ruled = stays.ruled ∙ was.ruled;
+          born = stays.born ∙ was.born;
           holds = subst (λ x. IsStore tells story new birth x) (sym (append-nil (entries ++ recorded_in rules link deeds)) ∙ more_entries deeds deed [] stays.none)
               (stays.holds birth (entries ++ recorded_in rules link deeds) was.holds);
           doubt = still_doubt deeds deed (unsure_in new) stays.none
               (subst (λ (u : Option Recorded). IfSome u (IsInDoubt rules link deeds)) (sym stays.unsure) was.doubt);
-          amid = told_leaves_weaker tells first (story (disk_in new)) (ReopensAmid rules link entries deeds) (ReopensAmid rules link entries (deed ∷ deeds))
-              (still_amid entries deeds deed)
-              (subst (λ (d : D). OnTrue tells (LeavesOnly first (story d) (ReopensAmid rules link entries deeds))) (sym stays.disk) was.amid);
+          amid = told_leaves_weaker tells first (story (disk_in new)) (ReopensAmid rules link birth entries deeds) (ReopensAmid rules link birth entries (deed ∷ deeds))
+              (still_amid birth entries deeds deed)
+              (subst (λ (d : D). OnTrue tells (LeavesOnly first (story d) (ReopensAmid rules link birth entries deeds))) (sym stays.disk) was.amid);
           rose = subst (λ (d : D). IfSome (unsure_in new) (λ _. Rose 0 (faults d))) (sym stays.disk)
               (subst (λ (u : Option Recorded). IfSome u (λ _. Rose 0 (faults (disk_in old)))) (sym stays.unsure) was.rose);
           bounded = omega (arith, fewer, same);
@@ -262,19 +270,20 @@ module _ {D : Type 0} (tells : Bool) (story : D → Story) (faults calls : D →
     behind_moved deeds deed old new was moves =
         let fewer = was.bounded in
         let one = moves.does_.bounded in
-        let settled : settle (state_in old) ≡ state_of rules (entries ++ recorded_in rules link deeds) =
-        was.holds.state ∙ ap (λ (r : Rules). state_of r (entries ++ recorded_in rules link deeds)) was.ruled in
+        let settled : settle (state_in old) ≡ state_of birth rules (entries ++ recorded_in rules link deeds) =
+        was.holds.state ∙ ap (λ (r : Rules). state_of birth r (entries ++ recorded_in rules link deeds)) was.ruled in
         record {
           ruled = moves.does_.ruled ∙ was.ruled;
+          born = moves.does_.born ∙ was.born;
           holds = subst (λ x. IsStore tells story new birth x) (more_entries deeds deed (put_behind moves.kept moves.outcome) moves.records)
               (moves.does_.holds birth (entries ++ recorded_in rules link deeds) was.holds);
           doubt = now_doubt deeds deed (unsure_in old) (unsure_in new) moves.kept moves.outcome moves.records moves.asked moves.failed was.doubt moves.does_.unsure;
-          amid = told_leaves_both tells first (story (disk_in old)) (story (disk_in new)) (ReopensAmid rules link entries (deed ∷ deeds))
-              (told_leaves_weaker tells first (story (disk_in old)) (ReopensAmid rules link entries deeds) (ReopensAmid rules link entries (deed ∷ deeds))
-              (still_amid entries deeds deed) was.amid)
-              (told_leaves_weaker tells (story (disk_in old)) (story (disk_in new)) (MayReopenIn (rules_in old) (state_in old) (unsure_in old) moves.kept)
-              (ReopensAmid rules link entries (deed ∷ deeds))
-              (in_call entries deeds deed (rules_in old) (state_in old) (unsure_in old) moves.kept was.ruled settled was.doubt moves.asked) moves.does_.stops);
+          amid = told_leaves_both tells first (story (disk_in old)) (story (disk_in new)) (ReopensAmid rules link birth entries (deed ∷ deeds))
+              (told_leaves_weaker tells first (story (disk_in old)) (ReopensAmid rules link birth entries deeds) (ReopensAmid rules link birth entries (deed ∷ deeds))
+              (still_amid birth entries deeds deed) was.amid)
+              (told_leaves_weaker tells (story (disk_in old)) (story (disk_in new)) (MayReopenIn (birth_in old) (rules_in old) (state_in old) (unsure_in old) moves.kept)
+              (ReopensAmid rules link birth entries (deed ∷ deeds))
+              (in_call birth entries deeds deed (birth_in old) (rules_in old) (state_in old) (unsure_in old) moves.kept was.born was.ruled settled was.doubt moves.asked) moves.does_.stops);
           rose = rose_now (unsure_in old) (unsure_in new) moves.kept moves.outcome (faults (disk_in old)) (faults (disk_in new)) was.rose moves.does_.unsure moves.does_.counted;
           bounded = omega (arith, fewer, one);
         }
@@ -304,24 +313,25 @@ module _ {D : Type 0} (tells : Bool) (story : D → Story) (faults calls : D →
   kept_by areas word birth found opened closed deeds disk told new_disk is led left same closes_as closes_to =
       let begun : Behind (birth_in opened) is.entries (untold areas) 20 [] opened = record {
         ruled = is.ruled;
+        born = refl;
         holds = subst (λ es. IsStore tells story opened (birth_in opened) es) (sym (append-nil is.entries)) is.holds;
         doubt = subst (λ (u : Option Recorded). IfSome u (IsInDoubt rules link [])) (sym is.sure) tt;
-        amid = told_leaves_weaker tells (untold areas) (story (disk_in opened)) (ReopensTo rules (state_of rules is.entries)) (ReopensAmid rules link is.entries [])
+        amid = told_leaves_weaker tells (untold areas) (story (disk_in opened)) (ReopensTo rules (state_of (birth_in opened) rules is.entries)) (ReopensAmid rules link (birth_in opened) is.entries [])
             (λ image reopens. record {
               front = [];
               since = [];
               split = refl;
               more = None;
               doubt = tt;
-              reopens = subst (λ es. ReopensTo rules (state_of rules es) image) (sym (append-nil is.entries)) reopens;
+              reopens = subst (λ es. ReopensTo rules (state_of (birth_in opened) rules es) image) (sym (append-nil is.entries)) reopens;
             }) (opened_stops tells story faults calls areas found rules birth opened new_disk is);
         rose = subst (λ (u : Option Recorded). IfSome u (λ _. Rose 0 (faults (disk_in opened)))) (sym is.sure) tt;
         bounded = let few = opened_calls tells story faults calls areas found rules birth opened new_disk is in omega (arith, few);
       } in
       let behind = behind_all (birth_in opened) is.entries (untold areas) 20 deeds opened closed begun led in
       let all = is.entries ++ recorded_in rules link deeds in
-      let settled : settle (state_in closed) ≡ settle (state_of rules all) =
-      behind.holds.state ∙ ap (λ (r : Rules). state_of r all) behind.ruled ∙ sym (settle-state_of rules all) in
+      let settled : settle (state_in closed) ≡ settle (state_of (birth_in opened) rules all) =
+      behind.holds.state ∙ ap (λ (r : Rules). state_of (birth_in opened) r all) behind.ruled ∙ sym (settle-state_of (birth_in opened) rules all) in
       record {
         birth = birth_in opened;
         entries = is.entries;
@@ -338,9 +348,10 @@ module _ {D : Type 0} (tells : Bool) (story : D → Story) (faults calls : D →
         rose = subst (λ (d : D). IfSome (unsure_in closed) (λ _. Rose 0 (faults d))) (sym same) behind.rose;
         stands = closes_as (birth_in opened) all behind.holds;
         stops = told_weaker tells _ _
-            (λ reopens image here. alike_may rules (state_in closed) (state_of rules all) (unsure_in closed) image settled
-            (subst (λ (r : Rules). MayReopen r (state_in closed) (unsure_in closed) image) behind.ruled (reopens image here)))
+            (λ reopens image here. alike_may (birth_in opened) rules (state_in closed) (state_of (birth_in opened) rules all) (unsure_in closed) image settled
+            (subst (λ (r : Rules). MayReopen (birth_in opened) r (state_in closed) (unsure_in closed) image) behind.ruled
+            (subst (λ b. MayReopen b (rules_in closed) (state_in closed) (unsure_in closed) image) behind.born (reopens image here))))
             (closes_to (birth_in opened) all behind.holds);
-        amid = subst (λ (d : D). OnTrue tells (LeavesOnly (untold areas) (story d) (ReopensAmid rules link is.entries deeds))) (sym same) behind.amid;
+        amid = subst (λ (d : D). OnTrue tells (LeavesOnly (untold areas) (story d) (ReopensAmid rules link (birth_in opened) is.entries deeds))) (sym same) behind.amid;
         bounded = let here : calls disk ≡ calls (disk_in closed) = ap calls same in let few = behind.bounded in omega (arith, here, few);
       }

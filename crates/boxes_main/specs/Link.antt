@@ -166,7 +166,7 @@ module _ {D : Type 0} (tells : Bool) (story : D → Story) (faults calls : D →
     pub opened : Stored D
     pub closed : Stored D
     pub ruled : rules_in opened ≡ rules
-    pub began : state_in opened ≡ state_of rules entries
+    pub began : state_in opened ≡ state_of birth rules entries
     pub led : Leads tells story faults calls number opened deeds closed
     pub left : IsOf number [] false (state_in closed)
     pub back : disk ≡ disk_in closed
@@ -174,8 +174,8 @@ module _ {D : Type 0} (tells : Bool) (story : D → Story) (faults calls : D →
     pub doubt : IfSome unsure (IsInDoubt rules number deeds)
     pub rose : IfSome unsure (λ _. Rose 0 (faults disk))
     pub stands : OnTrue tells ((image : Areas) → IsImage (story disk) image → MayStandFor birth (entries ++ recorded_in rules number deeds) unsure image)
-    pub stops : OnTrue tells ((image : Areas) → IsImage (story disk) image → MayReopen rules (state_of rules (entries ++ recorded_in rules number deeds)) unsure image)
-    pub amid : OnTrue tells (LeavesOnly (untold areas) (story disk) (ReopensAmid rules number entries deeds))
+    pub stops : OnTrue tells ((image : Areas) → IsImage (story disk) image → MayReopen birth rules (state_of birth rules (entries ++ recorded_in rules number deeds)) unsure image)
+    pub amid : OnTrue tells (LeavesOnly (untold areas) (story disk) (ReopensAmid rules number birth entries deeds))
     pub bounded : calls disk ≤ 20 + 6 * length deeds
 
 -- a fault of the disk is told only where its count rose

@@ -62,10 +62,10 @@ module _ (rules : Rules) (link : ℕ) where
 
   -- What a stop in a session leaves: areas that reopen to the state behind a front of its deeds, or to that with one entry more, which was in
   -- doubt then or was being recorded.
-  pub record ReopensAmid (entries : List Recorded) (deeds : List Deed) (image : Areas) : Type 0 where
+  pub record ReopensAmid (birth : ℕ) (entries : List Recorded) (deeds : List Deed) (image : Areas) : Type 0 where
     pub front : List Deed
     pub since : List Deed
     pub split : deeds ≡ since ++ front
     pub more : Option Recorded
     pub doubt : IfSome more (λ kept. IsInDoubt front kept ⊎ IsNext deeds front kept)
-    pub reopens : MayReopen rules (state_of rules (entries ++ recorded_in front)) more image
+    pub reopens : MayReopen birth rules (state_of birth rules (entries ++ recorded_in front)) more image

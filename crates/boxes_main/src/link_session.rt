@@ -5,7 +5,7 @@ ghost use Rattle.config_groups.specs.Ranges.{IsLink, IsLogin};
 ghost use Rattle.gate_store.specs.Store.{unsure_in};
 ghost use Rattle.kn_base.specs.Course.{IsFresh as IsNewCourse};
 ghost use Rattle.link_turn.specs.Session.{IsFresh, IsNew};
-ghost use Rattle.link_turn.specs.Turn.{MayTurn, HearsNoReport};
+ghost use Rattle.link_turn.specs.Turn.{MayTurn};
 ghost use Rattle.link_turn.specs.declared.terms.Terms.{Terms};
 ghost use Rattle.route_rules.specs.declared.link_kind.LinkKind.TheVariants.{Smpp};
 ghost use Rattle.boxes_main.specs.DoorSteps.{HasRoom};
@@ -142,7 +142,6 @@ fn take_turns<C: LinkCore + Drop, D: Disk, P: Peer, K: Clock>(
 ) -> EndCause
     requires may { MayTurn C.tags C.next_tag C.holds C.kind C.hears C.refuses C.said D.tells D.story session.old store.old (K.latest clock.old) }
     requires begun { ¬ IsFresh session.old }
-    requires no_reports { HearsNoReport C.hears }
     ensures { steps.EndsBehind C.hears C.refuses C.said D.tells D.story D.faults D.calls session.old (P.course peer.old) (P.course peer.new)
         (K.readings clock.old) (K.readings clock.new) store.old store.new result }
 {
@@ -169,7 +168,6 @@ fn talk<C: LinkCore + Drop, D: Disk, P: Peer, K: Clock>(
 ) -> EndCause
     requires may { MayTurn C.tags C.next_tag C.holds C.kind C.hears C.refuses C.said D.tells D.story session.old store.old (K.latest clock.old) }
     requires peer { IsNewCourse (P.course peer.old) }
-    requires no_reports { HearsNoReport C.hears }
     ensures { steps.Holds C.hears C.refuses C.said D.tells D.story D.faults D.calls session.old (P.course peer.old) (P.course peer.new)
         (K.readings clock.old) (K.readings clock.new) store.old store.new result }
 {
@@ -197,7 +195,6 @@ fn hold<C: LinkCore + Drop, D: Disk, L: Dialer, K: Clock>(
 ) -> Held
     requires may { MayTurn C.tags C.next_tag C.holds C.kind C.hears C.refuses C.said D.tells D.story session store.old (K.latest clock.old) }
     requires peer { IsNewCourse (L.P.course peer) }
-    requires no_reports { HearsNoReport C.hears }
     ensures { (core : C) → (terms : Terms) → IsNew core terms session → steps.HoldsWith C.hears C.refuses C.said D.tells D.story D.faults D.calls core terms
         (K.readings clock.old) (K.readings clock.new) store.old store.new (L.dealings dialer.old) (L.dealings dialer.new) result }
 {
@@ -219,7 +216,6 @@ fn call<C: LinkCore + Drop, D: Disk, L: Dialer, K: Clock>(
     centre: &LinkSettings,
 ) -> Option<Held>
     requires may { MayTurn C.tags C.next_tag C.holds C.kind C.hears C.refuses C.said D.tells D.story session store.old (K.latest clock.old) }
-    requires no_reports { HearsNoReport C.hears }
     ensures { (core : C) → (terms : Terms) → IsNew core terms session → steps.Calls C.hears C.refuses C.said D.tells D.story D.faults D.calls core terms centre.now
         (K.readings clock.old) (K.readings clock.new) store.old store.new (L.dealings dialer.old) (L.dealings dialer.new) result }
 {
