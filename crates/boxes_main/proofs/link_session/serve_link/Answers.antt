@@ -11,10 +11,10 @@ use Rattle.boxes_main.specs.Worker.{worker_of}
 use Rattle.boxes_main.proofs.LinkServing.{serves_link_by}
 use Rattle.boxes_main.proofs.link_session.serve_link.Goals as goal
 
-pub call-held-requires-clause-may : goal.call-held-requires-clause-may
-call-held-requires-clause-may g c =
-    subst (λ n. MayTurn last_tag next_tag (λ tag. tag < 2 ^ 32) Smpp Hears Refuses smpp.said g.H.D.Disk.tells g.H.D.Disk.story c.args.session c.args.store n)
-    (sym c.clock-clock.ensures.clock.no_latest) c.requires.may
+pub call-held-requires : goal.call-held-requires
+call-held-requires g c =
+    record { may = subst (λ n. MayTurn last_tag next_tag (λ tag. tag < 2 ^ 32) Smpp Hears Refuses smpp.said g.H.D.Disk.tells g.H.D.Disk.story c.args.session c.args.store n)
+    (sym c.clock-clock.ensures.clock.no_latest) c.requires.may }
 
 pub returns : goal.returns
 returns g c =
