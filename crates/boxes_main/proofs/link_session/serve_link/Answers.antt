@@ -13,8 +13,10 @@ use Rattle.boxes_main.proofs.link_session.serve_link.Goals as goal
 
 pub call-held-requires : goal.call-held-requires
 call-held-requires g c =
-    record { may = subst (λ n. MayTurn last_tag next_tag (λ tag. tag < 2 ^ 32) Smpp Hears Refuses smpp.said g.H.D.Disk.tells g.H.D.Disk.story c.args.session c.args.store n)
-    (sym c.clock-clock.ensures.clock.no_latest) c.requires.may }
+    record {
+      may = subst (λ n. MayTurn last_tag next_tag (λ tag. tag < 2 ^ 32) Smpp Hears Refuses smpp.said g.H.D.Disk.tells g.H.D.Disk.story c.args.session c.args.store n)
+          (sym c.clock-clock.ensures.clock.no_latest) c.requires.may;
+    }
 
 pub returns : goal.returns
 returns g c =

@@ -12,9 +12,11 @@ carry_out-requires g c =
     let core = g.C.LinkCore in
     let disk = g.D.Disk in
     let latest_now : now_of c.next-wish.new.self ≤ c.now.result = omega (arith, c.next-wish.ensures.latest) in
-    record { wishes = subst (λ (latest : ℕ). Wishes core.tags core.next_tag core.holds core.kind core.hears core.refuses core.said disk.tells disk.story c.next-wish.result c.next-wish.new.self c.args.store.now latest) (sym c.now.ensures.latest)
-    (wishes_first core.tags core.next_tag core.holds core.kind disk.tells disk.story disk.faults disk.calls core.hears core.refuses core.said c.first-given.result c.next-wish.result c.args.session.now c.next-wish.new.self
-    c.args.store.now (g.K.Clock.latest c.args.clock.now) c.now.result c.requires.may c.now.ensures.range c.next-wish.ensures.session c.next-wish.ensures.entry latest_now tt c.next-wish.ensures.law) }
+    record {
+      wishes = subst (λ (latest : ℕ). Wishes core.tags core.next_tag core.holds core.kind core.hears core.refuses core.said disk.tells disk.story c.next-wish.result c.next-wish.new.self c.args.store.now latest) (sym c.now.ensures.latest)
+          (wishes_first core.tags core.next_tag core.holds core.kind disk.tells disk.story disk.faults disk.calls core.hears core.refuses core.said c.first-given.result c.next-wish.result c.args.session.now c.next-wish.new.self
+          c.args.store.now (g.K.Clock.latest c.args.clock.now) c.now.result c.requires.may c.now.ensures.range c.next-wish.ensures.session c.next-wish.ensures.entry latest_now tt c.next-wish.ensures.law);
+    }
 
 pub returns-in-Some-clause-again : goal.returns-in-Some-clause-again
 returns-in-Some-clause-again g c =
