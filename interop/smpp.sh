@@ -32,6 +32,7 @@ counts() { "$program" show gate.conf | tr '\n' ' '; }
 
 # Runs `link` beside a centre, and leaves what both say in files.
 link() {
+    rm -f heard
     perl "$here/interop/centre.pl" "$port" secret > heard 2>&1 &
     centre=$!
     for i in 1 2 3 4 5 6 7 8 9 10; do
