@@ -7,6 +7,7 @@ use Rattle.kn_base.specs.Count.{Rose}
 use Rattle.gate_entries.specs.declared.passing.Passing.{Passing}
 use Rattle.gate_entries.specs.declared.passing.Passing.TheVariants.{Took}
 use Rattle.gate_entries.specs.declared.recorded.Recorded.{Recorded}
+use Rattle.gate_model.specs.Due.{HaveReports}
 use Rattle.gate_model.specs.Fold.{does, recorded}
 use Rattle.gate_model.specs.Lawful.{is_expired}
 use Rattle.gate_model.specs.Routing.{next}
@@ -23,6 +24,7 @@ use Rattle.gate_store.specs.declared.store.Store.{Store}
 use Rattle.gate_store.specs.declared.taken.Taken.{Taken}
 use Rattle.gate_store.specs.declared.taken.Taken.TheVariants as taken
 use Rattle.gate_store.proofs.Commits.{settle-state_of}
+use Rattle.gate_store.proofs.Counting.{reports_by}
 use Rattle.gate_store.proofs.Reopened.{settle-does}
 use Rattle.gate_store.proofs.Told.{told_weaker, told_leaves_weaker, told_leaves_both}
 use Rattle.link_turn.specs.Steps.{Deed, performed, passed, took}
@@ -352,6 +354,8 @@ module _ {D : Type 0} (tells : Bool) (story : D → Story) (faults calls : D →
             (subst (λ (r : Rules). MayReopen (birth_in opened) r (state_in closed) (unsure_in closed) image) behind.ruled
             (subst (λ b. MayReopen b (rules_in closed) (state_in closed) (unsure_in closed) image) behind.born (reopens image here))))
             (closes_to (birth_in opened) all behind.holds);
+        reports = subst (λ (r : Rules). HaveReports (birth_in opened) (state_of (birth_in opened) r is.entries) (recorded_in rules link deeds) (state_in closed)) behind.ruled
+            (reports_by tells story closed (birth_in opened) is.entries (recorded_in rules link deeds) behind.holds);
         amid = subst (λ (d : D). OnTrue tells (LeavesOnly (untold areas) (story d) (ReopensAmid rules link (birth_in opened) is.entries deeds))) (sym same) behind.amid;
         bounded = let here : calls disk ≡ calls (disk_in closed) = ap calls same in let few = behind.bounded in omega (arith, here, few);
       }

@@ -5,6 +5,7 @@ use Rattle.std.specs.Option.{option_map_or}
 use Rattle.kn_base.specs.Count.{Rose}
 use Rattle.kn_base.specs.Talk.{heard_of, said_of}
 use Rattle.kn_base.specs.declared.piece.Past.{Past}
+use Rattle.kn_base.proofs.Readings.{readings_first}
 use Rattle.config_groups.specs.declared.settings.link_settings.LinkSettings.{LinkSettings}
 use Rattle.gate_entries.specs.declared.recorded.Recorded.{Recorded}
 use Rattle.gate_store.specs.Store.{IsOpened, disk_in, state_in, unsure_in}
@@ -12,7 +13,7 @@ use Rattle.gate_store.specs.declared.store.Store.{Store}
 use Rattle.link_turn.specs.Session.{messages, terms_of}
 use Rattle.link_turn.specs.Steps.{Deed}
 use Rattle.link_turn.specs.Talk.{LinkTalk}
-use Rattle.link_turn.specs.Turn.{IsOf, Leads, Reads}
+use Rattle.link_turn.specs.Turn.{IsOf, Leads}
 use Rattle.link_turn.specs.declared.end_cause.EndCause.{EndCause}
 use Rattle.link_turn.specs.declared.end_cause.EndCause.TheVariants as end_is
 use Rattle.link_turn.specs.declared.session.Session.{Session}
@@ -42,13 +43,6 @@ use Rattle.boxes_main.proofs.LinkKept.{kept_by}
 use Rattle.boxes_main.proofs.Sessions.{ClosesAs, ClosesTo, opened_unfailed}
 
 -- ---- what is told of something new
-
-reads_first : (readings : List ℕ) (old new : Option (List ℕ)) → IfSome old (λ so_far. so_far ≡ []) → Reads readings old new → IfSome new (λ all. all ≡ readings)
-reads_first readings old None none reads = tt
-reads_first readings None (Some all) none reads = absurd (let e : None ≡ Some reads.0 = reads.1 in cc)
-reads_first readings (Some so_far) (Some all) none reads =
-    let same : so_far ≡ reads.0 = let e : Some so_far ≡ Some reads.0 = reads.1 in cc in
-    reads.2 ∙ ap (λ x. x ++ readings) (sym same ∙ none)
 
 adds_first : {A : Type 0} (item : A) (old new : Option (List A)) → IfSome old (λ so_far. so_far ≡ []) → Adds item old new → IfSome new (λ all. all ≡ item ∷ [])
 adds_first item old None none adds = tt
@@ -163,7 +157,7 @@ module _
           alone = refl;
           left = record {
             role = refl;
-            clock = reads_first holds.readings (readings_of clock) (readings_of clock_later) new_clock holds.clock;
+            clock = readings_first holds.readings (readings_of clock) (readings_of clock_later) new_clock holds.clock;
             dialer_is = refl;
             dialled = adds_first (asked_for centre.host centre.port) (dealings dialer).dials (dealings dialer_later).dials new_dialer.undialled dials;
             told = told_pasts held.cause held.past (dealings dialer_later).pasts between.pasts

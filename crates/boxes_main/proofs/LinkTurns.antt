@@ -4,7 +4,7 @@ use Rattle.std.specs.Prelude.{IfSome, MatchOption, is_some, ◌==◌}
 use Rattle.std.proofs.Math.Nat.{min-le_left}
 use Rattle.std.proofs.lemmas.Bool.{cases_Bool, eqb-true}
 use Rattle.std.proofs.lemmas.List.{append-nil, length-append}
-use Rattle.kn_base.specs.Count.{Counts, no_counts, Rose}
+use Rattle.kn_base.specs.Count.{Counts, NoneFell, no_counts, Rose}
 use Rattle.kn_base.specs.Course.{Course, with_more}
 use Rattle.kn_base.specs.Course.{IsFresh as IsNewCourse}
 use Rattle.kn_base.specs.Talk.{heard_of, said_of, IsPastOf}
@@ -18,7 +18,7 @@ use Rattle.link_turn.specs.Session.{Talk, no_talk, spoken_in, IsFresh, IsNew, te
 use Rattle.link_turn.specs.SessionSteps.{Stands, StandsIn}
 use Rattle.link_turn.specs.Steps.{Deed, deeds_in}
 use Rattle.link_turn.specs.Talk.{LinkTalk}
-use Rattle.link_turn.specs.Turn.{IsOf, NoneFell, Turning, CountsTurn}
+use Rattle.link_turn.specs.Turn.{IsOf, Turning, CountsTurn}
 use Rattle.link_turn.specs.declared.end_cause.EndCause.{EndCause}
 use Rattle.link_turn.specs.declared.end_cause.EndCause.TheVariants as end_is
 use Rattle.link_turn.specs.declared.session.Phase.{Phase}
@@ -30,7 +30,8 @@ use Rattle.link_turn.specs.declared.wish.Wish.TheVariants as wish_is
 use Rattle.link_turn.proofs.TalkingOn.{talks_none, talks_then}
 use Rattle.peer_dialer.specs.Dealings.{Dealings, Parts}
 use Rattle.store_disk.specs.Story.{Story}
-use Rattle.boxes_main.specs.Link.{octets_limit, quiets_limit, talk_cause, RoseBy, IsCounted, IsPast}
+use Rattle.boxes_main.specs.Door.{octets_limit}
+use Rattle.boxes_main.specs.Link.{quiets_limit, talk_cause, RoseBy, IsCounted, IsPast}
 use Rattle.boxes_main.specs.LinkSteps.{behind, end_of, remaining, IsLimit, IsOn, Talked, HoldsWith}
 use Rattle.boxes_main.specs.declared.link_session.Limit.{Limit}
 use Rattle.boxes_main.specs.declared.link_session.Limit.TheVariants.{Octets, Quiets}

@@ -3,12 +3,14 @@ use Rattle.std.proofs.Common.{◌≡◌, ◌≤◌, ◌+◌, ℕ, Bool, true, fa
 use Rattle.std.specs.Prelude.{IfSome, is_some, option_map}
 use Rattle.std.specs.Bool.{OnTrue}
 use Rattle.std.proofs.lemmas.List.{append-nil}
+use Rattle.kn_base.specs.Clock.{AddsAll}
 use Rattle.kn_base.specs.Course.{Course}
+use Rattle.kn_base.proofs.Readings.{readings_first}
 use Rattle.config_groups.specs.declared.settings.Settings.{Settings}
 use Rattle.gate_model.specs.Acceptor.{Deed, CountsFaults}
 use Rattle.gate_model.specs.State.{State, totals_of}
 use Rattle.gate_model.specs.declared.totals.Totals.{Totals}
-use Rattle.sendsms_http.specs.Session.{AddsAll, Talks}
+use Rattle.sendsms_http.specs.Session.{Talks}
 use Rattle.sendsms_http.specs.declared.http_end.HttpEnd.{HttpEnd}
 use Rattle.store_journal.specs.Area.{stands, unborn}
 use Rattle.store_disk.specs.Disk.{Areas}
@@ -38,12 +40,6 @@ use Rattle.boxes_main.specs.declared.printing.OutputFault.{OutputFault}
 use Rattle.boxes_main.proofs.Amid.{amid, amid_first, calls_after, opening_stops, state_after}
 use Rattle.boxes_main.proofs.Answered.{talk_done}
 use Rattle.boxes_main.proofs.Doubts.{in_doubt}
-
--- a clock that wasn't read before was read so and no more
-new_readings : (readings : List ℕ) (old new : Option (List ℕ)) → IfSome old (λ so_far. so_far ≡ []) → AddsAll readings old new → IfSome new (λ all. all ≡ readings)
-new_readings readings old None none adds = tt
-new_readings readings (Some old) (Some all) none adds = let was : old ≡ adds.0 = cc in let more : all ≡ adds.0 ++ readings = adds.2 in cc
-new_readings readings None (Some all) none adds = absurd cc
 
 -- a fact that follows from three, where something is told
 told_three : (tells : Bool) (P Q R S : Type 0) → (P → Q → R → S) → OnTrue tells P → OnTrue tells Q → OnTrue tells R → OnTrue tells S
@@ -202,7 +198,7 @@ module _
           end = end;
           worker = record { role = role_is.Http; clock = Some clock_later; dialer = None; ends = ended_as.Http end ∷ []; pasts = [] };
           alone = left;
-          left = record { role = refl; clock = new_readings readings (readings_of clock) (readings_of clock_later) new_clock read; no_dialer = refl; ends = refl; no_pasts = refl };
+          left = record { role = refl; clock = readings_first readings (readings_of clock) (readings_of clock_later) new_clock read; no_dialer = refl; ends = refl; no_pasts = refl };
           after = disk;
           handed_back = refl;
           session = session_by tells story faults calls settings store later (course old.visitor) (course new.visitor) readings deeds end disk

@@ -8,6 +8,7 @@ use Rattle.kn_base.specs.declared.piece.Piece.{Piece}
 use Rattle.config_groups.specs.declared.settings.Settings.{Settings}
 use Rattle.config_groups.specs.declared.settings.link_settings.LinkSettings.{LinkSettings}
 use Rattle.gate_entries.specs.declared.recorded.Recorded.{Recorded}
+use Rattle.gate_model.specs.Due.{HaveReports}
 use Rattle.gate_store.specs.Entries.{state_of}
 use Rattle.gate_store.specs.Reopening.{MayReopen, MayStandFor}
 use Rattle.gate_store.specs.Store.{rules_in, state_in, unsure_in, disk_in}
@@ -27,6 +28,7 @@ use Rattle.smpp_link.specs.Hearing.{Hears, Refuses}
 use Rattle.smpp_link.specs.Saying as smpp
 use Rattle.store_disk.specs.Disk.{Areas}
 use Rattle.store_disk.specs.Story.{Story, IsImage, LeavesOnly, untold}
+use Rattle.boxes_main.specs.Door.{octets_limit}
 use Rattle.boxes_main.specs.House.{Rooms, Stock}
 use Rattle.boxes_main.specs.LinkDeeds.{recorded_in, IsInDoubt, ReopensAmid}
 use Rattle.boxes_main.specs.Opening.{Reads, IsFound, IsNoStore}
@@ -70,11 +72,7 @@ module _ {S : Type 0} (files : S → Option (List (List ℕ × List ℕ))) (shel
 
 -- ---- a session
 
--- from so many octets on that were heard, it is told to stop
-abbrev pub octets_limit : ℕ
-octets_limit = 1048576
-
--- and behind so many turns in a row that heard nothing
+-- behind so many turns in a row that heard nothing, it is told to stop; so it is from as many octets on as a connection may have
 abbrev pub quiets_limit : ℕ
 quiets_limit = 1000
 
@@ -158,7 +156,8 @@ IsPast pieces counts past = (past.pieces ≡ pieces) × (counts ≡ counts_of pa
 module _ {D : Type 0} (tells : Bool) (story : D → Story) (faults calls : D → ℕ) where
   -- What became of a store over which a link's deeds were done, from when it was opened, as that of the areas, to when it was closed. Whatever a
   -- stop leaves of the disk that is handed back stands for the store with what they recorded behind its entries, or, where one is unsure, for
-  -- that with it. At the end the link holds no message, and is down.
+  -- that with it. At the end the link holds no message, and is down; and of what they recorded, the reports that are awaited are those that it leaves
+  -- open, and the jobs that are held those that it makes due.
   pub record IsKept (rules : Rules) (number : ℕ) (areas : Areas) (word : Option ℕ) (deeds : List Deed) (disk : D) (unsure : Option Recorded) : Type 0 where
     pub birth : ℕ
     pub entries : List Recorded
@@ -175,6 +174,7 @@ module _ {D : Type 0} (tells : Bool) (story : D → Story) (faults calls : D →
     pub rose : IfSome unsure (λ _. Rose 0 (faults disk))
     pub stands : OnTrue tells ((image : Areas) → IsImage (story disk) image → MayStandFor birth (entries ++ recorded_in rules number deeds) unsure image)
     pub stops : OnTrue tells ((image : Areas) → IsImage (story disk) image → MayReopen birth rules (state_of birth rules (entries ++ recorded_in rules number deeds)) unsure image)
+    pub reports : HaveReports birth (state_of birth rules entries) (recorded_in rules number deeds) (state_in closed)
     pub amid : OnTrue tells (LeavesOnly (untold areas) (story disk) (ReopensAmid rules number birth entries deeds))
     pub bounded : calls disk ≤ 20 + 6 * length deeds
 

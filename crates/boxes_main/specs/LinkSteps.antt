@@ -1,6 +1,7 @@
 -- The steps of `link`. No public clause cites these.
 use Rattle.std.specs.Prelude.{◌≡◌, ◌≢◌, ◌≤◌, ◌<◌, ◌+◌, ◌-◌, ◌*◌, ◌^◌, ◌⊎◌, ◌==◌, ℕ, min, Bool, true, false, if◌then◌else◌, List, [], ◌∷◌, length, Option, Some, None, IfSome, MatchOption, is_some, option_map, slice_get, Ok}
 use Rattle.std.specs.Option.{option_map_or}
+use Rattle.kn_base.specs.Clock.{AddsAll}
 use Rattle.kn_base.specs.Count.{Counts, no_counts, Rose}
 use Rattle.kn_base.specs.Course.{Course}
 use Rattle.kn_base.specs.Talk.{heard_of, said_of}
@@ -17,7 +18,7 @@ use Rattle.link_turn.specs.Session.{Talk, no_talk, spoken_in, IsNew, IsSession}
 use Rattle.link_turn.specs.SessionSteps.{Stands}
 use Rattle.link_turn.specs.Steps.{Deed, deeds_in}
 use Rattle.link_turn.specs.Talk.{LinkTalk}
-use Rattle.link_turn.specs.Turn.{IsOf, Leads, MayTurn, Reads, TalksOn}
+use Rattle.link_turn.specs.Turn.{IsOf, Leads, MayTurn, TalksOn}
 use Rattle.link_turn.specs.declared.end_cause.EndCause.{EndCause}
 use Rattle.link_turn.specs.declared.end_cause.EndCause.TheVariants as end_is
 use Rattle.link_turn.specs.declared.session.Session.{Session}
@@ -35,11 +36,12 @@ use Rattle.smpp_link.specs.Tags.{last_tag, next_tag}
 use Rattle.smpp_wire.specs.Command.{BindFields}
 use Rattle.store_disk.specs.Disk.{Areas}
 use Rattle.store_disk.specs.Story.{Story}
+use Rattle.boxes_main.specs.Door.{octets_limit}
 use Rattle.boxes_main.specs.Failure.{status_of}
 use Rattle.boxes_main.specs.House.{Rooms, Stock, MakesFor, IsToldWord}
-use Rattle.boxes_main.specs.Link.{octets_limit, quiets_limit, talk_cause, RoseBy, IsCounted, link_fault, terms_for, HasNone, IsFirst, IsPast, IsHeld, IsUndialled, ComesToLink}
+use Rattle.boxes_main.specs.Link.{quiets_limit, talk_cause, RoseBy, IsCounted, link_fault, terms_for, HasNone, IsFirst, IsPast, IsHeld, IsUndialled, ComesToLink}
 use Rattle.boxes_main.specs.Opening.{IsHouseDisk, IsNoStore}
-use Rattle.boxes_main.specs.Opening.{Reads as ReadsFiles}
+use Rattle.boxes_main.specs.Opening.{Reads}
 use Rattle.boxes_main.specs.Worker.{Worker}
 use Rattle.boxes_main.specs.declared.command_end.SessionEnd.{SessionEnd}
 use Rattle.boxes_main.specs.declared.command_end.SessionEnd.TheVariants as ended_as
@@ -145,7 +147,7 @@ module _
     pub talks : LinkTalk hears refuses (said core) terms (heard_of pieces) (said_of pieces) readings deeds (talk_cause held.cause)
     pub counts : Counts
     pub counted : IsCounted held.cause (length (heard_of pieces)) counts
-    pub clock : Reads readings told now_told
+    pub clock : AddsAll readings told now_told
     pub led : Leads tells story faults calls terms.link store deeds after
     pub ruled : rules_in after ≡ rules_in store
     pub opened : IsOpen tells story after
@@ -225,7 +227,7 @@ ChoosesNone settings id failure = ⊥
 -- the configuration was read, and a link of it chosen
 abbrev pub IsChosenIn : {S : Type 0} → (S → Option (List (List ℕ × List ℕ))) → (S → ℕ) → (name id : List ℕ) → S → S → Settings → (number : ℕ) → Type 0
 IsChosenIn files shelf_faults name id old new settings number =
-    AreSettings settings × ReadsFiles files shelf_faults name old new (Ok settings) × Chooses settings id number
+    AreSettings settings × Reads files shelf_faults name old new (Ok settings) × Chooses settings id number
 
 module _
     {D C L : Type 0} (tells : Bool) (story : D → Story) (faults calls : D → ℕ) (readings_of : C → Option (List ℕ)) (dealings : L → Dealings) where

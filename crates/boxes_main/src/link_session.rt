@@ -1,8 +1,7 @@
 //! One session of a link over an open store: its centre is dialled, and turns are taken until it ends.
 
-ghost use Rattle.std.specs.Prelude.{◌≡◌, ◌<◌, [], ◌∷◌, Some, IfOk, is_some, map, vec_len, vec_capacity};
+ghost use Rattle.std.specs.Prelude.{◌≡◌, ◌<◌, [], ◌∷◌, Some, IfOk, map, vec_len, vec_capacity};
 ghost use Rattle.config_groups.specs.Ranges.{IsLink, IsLogin};
-ghost use Rattle.gate_store.specs.Store.{unsure_in};
 ghost use Rattle.kn_base.specs.Course.{IsFresh as IsNewCourse};
 ghost use Rattle.link_turn.specs.Session.{IsFresh, IsNew};
 ghost use Rattle.link_turn.specs.Turn.{MayTurn};
@@ -14,7 +13,7 @@ ghost use Rattle.boxes_main.specs.LinkSteps as steps;
 ghost use Rattle.boxes_main.specs.Worker.{worker_of};
 
 use crate::failure::status;
-use crate::session::Room;
+use crate::session::{OCTETS_LIMIT, Room, is_unsure};
 use crate::{Ended, Failure, House, Role, SessionEnd, WorkerEnd};
 use config_groups::LinkSettings;
 use gate_store::Store;
@@ -25,9 +24,6 @@ use peer_dialer::{Dialed, Dialer};
 use smpp_link::SmppCore;
 use std::alloc::Global;
 use store_disk::Disk;
-
-/// From so many octets on that were heard, a session is told to stop.
-const OCTETS_LIMIT: u64 = 1_048_576;
 
 /// Behind so many turns in a row that heard nothing, a session is told to stop.
 const QUIETS_LIMIT: u32 = 1_000;
@@ -246,13 +242,6 @@ pub(crate) fn new_session(
         centre.wait_ack,
         centre.keepalive,
     )
-}
-
-/// Whether an entry that was refused because the disk failed may stand all the same.
-fn is_unsure<D: Disk>(store: &Store<D>) -> bool
-    ensures { result ≡ is_some (unsure_in store.now) }
-{
-    store.unsure().is_some()
 }
 
 /// What went wrong in the command: no connection was made, or a session failed.

@@ -17,7 +17,7 @@ use std::alloc::Global;
 use store_disk::Disk;
 
 /// How many octets of one connection are taken.
-const OCTETS_LIMIT: u64 = 1_048_576;
+pub(crate) const OCTETS_LIMIT: u64 = 1_048_576;
 
 /// What went wrong in a session.
 #[derive(Clone, Copy)]
@@ -95,7 +95,7 @@ fn leave<H: House>(room: Room<H>, clock: H::C, end: HttpEnd) -> Items<WorkerEnd<
 }
 
 /// Whether an entry that was refused because the disk failed may stand all the same.
-fn is_unsure<D: Disk>(store: &Store<D>) -> bool
+pub(crate) fn is_unsure<D: Disk>(store: &Store<D>) -> bool
     ensures { result ≡ is_some (unsure_in store.now) }
 {
     store.unsure().is_some()

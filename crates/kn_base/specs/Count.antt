@@ -25,6 +25,12 @@ pub record Counts : Type 0 where
 abbrev pub no_counts : Counts
 no_counts = record { faults = 0; starved = 0; quiets = 0; ended = false }
 
+-- No count fell.
+pub record NoneFell (old new : Counts) : Type 0 where
+  pub faults : old.faults ≤ new.faults
+  pub starved : old.starved ≤ new.starved
+  pub quiets : old.quiets ≤ new.quiets
+
 -- A call failed: a fault or a want of memory was counted, and nothing else.
 pub record CountsFailure (old new : Counts) : Type 0 where
   pub cause : Rose old.faults new.faults ⊎ Rose old.starved new.starved

@@ -5,17 +5,19 @@ use Rattle.std.proofs.lemmas.List.{append-nil}
 use Rattle.std.proofs.lemmas.List.Elements.{All-nil, All-cons, All-append}
 use Rattle.gate_store.specs.declared.store.Store.{Store}
 use Rattle.kn_base.specs.Clock.{Adds}
-use Rattle.kn_base.specs.Count.{Counts}
+use Rattle.kn_base.specs.Count.{Counts, NoneFell}
 use Rattle.kn_base.specs.Course.{Course, with_more, Fails, IsQuiet, Ends}
 use Rattle.kn_base.specs.Talk.{said_of, heard_of, SaysFront}
 use Rattle.kn_base.specs.declared.piece.Piece.{Piece}
 use Rattle.kn_base.specs.declared.piece.Piece.TheVariants as piece_is
+use Rattle.kn_base.proofs.Counts.{fell_same, fell_then, failure_fell}
+use Rattle.kn_base.proofs.Readings.{AddsAll-nil, AddsAll-append}
 use Rattle.kn_base.proofs.Talks.{said_of-append, heard_of-append, with_more-nil, with_more-with_more}
 use Rattle.link_core.specs.declared.out.Out.{Out}
 use Rattle.store_disk.specs.Story.{Story}
 use Rattle.link_turn.specs.Session.{Talk, GoesOn, spoken_in, heard_by, spoken_by, deeds_by, MayBeCut, IsCutShort}
 use Rattle.link_turn.specs.Steps.{Deed, performed, passed, took, deeds_in}
-use Rattle.link_turn.specs.Turn.{IsReading, NoneFell, Reads, Leads, TalksOn}
+use Rattle.link_turn.specs.Turn.{IsReading, Leads, TalksOn}
 use Rattle.link_turn.specs.TurnSteps.{Does, HearsSo, BeginsWith}
 use Rattle.link_turn.specs.declared.given.Given.{Given}
 use Rattle.link_turn.specs.declared.given.Given.TheVariants as given_is
@@ -23,41 +25,10 @@ use Rattle.link_turn.specs.declared.wish.Wish.{Wish}
 use Rattle.link_turn.specs.declared.wish.Wish.TheVariants as wish_is
 use Rattle.link_turn.proofs.Fitting.{Spoke, said_all, faulted, starved, spoke_so}
 
--- ---- readings
-
-pub reads_none : (told : Option (List ℕ)) → Reads [] told told
-reads_none None = tt
-reads_none (Some xs) = (xs, refl, sym (append-nil xs))
-
-pub reads_then : (first more : List ℕ) (told between now : Option (List ℕ)) → Reads first told between → Reads more between now → Reads (first ++ more) told now
-reads_then first more told between None one two = tt
-reads_then first more told None (Some now) one two = absurd (let e : None ≡ Some two.0 = two.1 in cc)
-reads_then first more told (Some xs) (Some now) one two =
-    let both : Some xs ≡ Some two.0 = two.1 in
-    let same : two.0 ≡ xs = cc in
-    (one.0, one.1, two.2 ∙ ap (λ (front : List ℕ). front ++ more) (same ∙ one.2) ∙ append_assoc one.0 first more)
-
 -- ---- counts
 
-pub none_fell : (counts : Counts) → NoneFell counts counts
-none_fell counts = record { faults = omega arith; starved = omega arith; quiets = omega arith }
-
-pub fell_then : (a b c : Counts) → NoneFell a b → NoneFell b c → NoneFell a c
-fell_then a b c one two = record {
-  faults = omega (arith, one.faults, two.faults);
-  starved = omega (arith, one.starved, two.starved);
-  quiets = omega (arith, one.quiets, two.quiets);
-}
-
-fell_same : (a b : Counts) → b ≡ a → NoneFell a b
-fell_same a b same = subst (NoneFell a) (sym same) (none_fell a)
-
 fell_failed : (a b : Course) → Fails a b → NoneFell a.counts b.counts
-fell_failed a b fails = record {
-  faults = fails.counts.faults;
-  starved = fails.counts.starved;
-  quiets = let same = ap (λ (c : Counts). c.quiets) fails.counts.same in omega (arith, same);
-}
+fell_failed a b fails = failure_fell a.counts b.counts fails.counts
 
 module _ {D : Type 0} (tells : Bool) (story : D → Story) (faults calls : D → ℕ) where
   -- deeds go on from where others led
@@ -81,10 +52,10 @@ module _ {D : Type 0} (tells : Bool) (story : D → Story) (faults calls : D →
     spoken = sym (append-nil (spoken_in said talk));
     read = sym (append-nil talk.readings);
     in_time = All-nil IsReading;
-    clock = reads_none told;
+    clock = AddsAll-nil told;
     done = refl;
     led = refl;
-    fell = none_fell course.counts;
+    fell = fell_same course.counts course.counts refl;
   }
 
   pub talks_then : (said : Out → List ℕ) (link : ℕ) (talk mid later : Talk) (a b c : Course) (told between now : Option (List ℕ)) (store amid after : Store D)
@@ -101,7 +72,7 @@ module _ {D : Type 0} (tells : Bool) (story : D → Story) (faults calls : D →
         ∙ ap (λ (xs : List ℕ). spoken_in said talk ++ xs) (sym (said_of-append one.pieces two.pieces));
     read = two.read ∙ ap (λ (xs : List ℕ). xs ++ two.readings) one.read ∙ append_assoc talk.readings one.readings two.readings;
     in_time = All-append IsReading one.readings two.readings one.in_time two.in_time;
-    clock = reads_then one.readings two.readings told between now one.clock two.clock;
+    clock = AddsAll-append one.readings two.readings told between now one.clock two.clock;
     done = two.done ∙ ap (λ (ds : List Deed). two.deeds ++ ds) one.done ∙ sym (append_assoc two.deeds one.deeds (deeds_in talk.steps));
     led = leads_then link store amid after one.deeds two.deeds one.led two.led;
     fell = fell_then a.counts b.counts c.counts one.fell two.fell;

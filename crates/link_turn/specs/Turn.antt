@@ -5,7 +5,8 @@ use Rattle.gate_model.specs.State.{State}
 use Rattle.gate_store.specs.Deeds.{Performs, Passes, Takes}
 use Rattle.gate_store.specs.Store.{IsOpen, rules_in, state_in}
 use Rattle.gate_store.specs.declared.store.Store.{Store}
-use Rattle.kn_base.specs.Count.{Counts, Rose}
+use Rattle.kn_base.specs.Clock.{AddsAll}
+use Rattle.kn_base.specs.Count.{Counts, NoneFell, Rose}
 use Rattle.kn_base.specs.Course.{Course, with_more}
 use Rattle.kn_base.specs.Talk.{heard_of, said_of}
 use Rattle.kn_base.specs.declared.piece.Piece.{Piece}
@@ -88,16 +89,6 @@ CountsTurn fresh stop (Ended end_is.PeerFault) old new = Rose old.faults new.fau
 CountsTurn fresh stop (Ended end_is.Closed) old new = stop ≡ true
 CountsTurn fresh stop (Ended cause) old new = ⊤
 
--- no count fell
-pub record NoneFell (old new : Counts) : Type 0 where
-  pub faults : old.faults ≤ new.faults
-  pub starved : old.starved ≤ new.starved
-  pub quiets : old.quiets ≤ new.quiets
-
--- where readings are told now, they were told before, and these were added
-abbrev pub Reads : List ℕ → Option (List ℕ) → Option (List ℕ) → Type 0
-Reads readings old new = IfSome new (λ now. (before : List ℕ) × (old ≡ Some before) × (now ≡ before ++ readings))
-
 module _ {D : Type 0} (tells : Bool) (story : D → Story) (faults calls : D → ℕ) where
   -- the deeds of a link lead from what a store was to what it is, one after the other; the newest stands first
   abbrev pub Leads : (link : ℕ) → Store D → List Deed → Store D → Type 0
@@ -116,7 +107,7 @@ module _ {D : Type 0} (tells : Bool) (story : D → Story) (faults calls : D →
     pub spoken : spoken_in said later ≡ spoken_in said talk ++ said_of pieces
     pub read : later.readings ≡ talk.readings ++ readings
     pub in_time : All IsReading readings
-    pub clock : Reads readings told now_told
+    pub clock : AddsAll readings told now_told
     pub done : deeds_in later.steps ≡ deeds ++ deeds_in talk.steps
     pub led : Leads link store deeds after
     pub fell : NoneFell old.counts new.counts

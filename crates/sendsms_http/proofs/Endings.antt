@@ -4,11 +4,12 @@ use Rattle.std.proofs.lemmas.List.{append-nil}
 use Rattle.config_groups.specs.declared.settings.Settings.{Settings}
 use Rattle.gate_model.specs.Acceptor.{Deed}
 use Rattle.http_text.specs.Head.{NeedsMore}
-use Rattle.kn_base.specs.Count.{Counts, CountsFailure, Rose}
+use Rattle.kn_base.specs.Count.{Counts, CountsFailure, NoneFell, Rose}
 use Rattle.kn_base.specs.Course.{Course, with_more, Fails, IsQuiet}
 use Rattle.kn_base.specs.Talk.{said_of, heard_of, SaysAll, SaysFront}
+use Rattle.kn_base.proofs.Counts.{fell_then, failure_fell}
 use Rattle.kn_base.proofs.Talks.{said_of-append, heard_of-append, with_more-with_more}
-use Rattle.sendsms_http.specs.Session.{Exchange, text_of, IsExchange, heard_in, said_in, times_in, deeds_in, IsCutShort, SaysLast, IsSilence, NoneFell, IsCaused, IsSpent, Serves}
+use Rattle.sendsms_http.specs.Session.{Exchange, text_of, IsExchange, heard_in, said_in, times_in, deeds_in, IsCutShort, SaysLast, IsSilence, IsCaused, IsSpent, Serves}
 use Rattle.sendsms_http.specs.SessionSteps.{IsEndOf, Stands, Has}
 use Rattle.sendsms_http.specs.declared.http_end.HttpEnd.{HttpEnd}
 use Rattle.sendsms_http.specs.declared.http_end.HttpEnd.TheVariants.{End, Fault, Quiet, Budget, Memory}
@@ -32,11 +33,7 @@ none_fell a b s = record {
 
 -- counts that didn't rise in a first step stand for those before it
 pub fell_behind : (a b c : Counts) → NoneRose a b → NoneFell b c → NoneFell a c
-fell_behind a b c s t = record {
-  faults = omega (arith, ap (λ (d : Counts). d.faults) s, t.faults);
-  starved = omega (arith, ap (λ (d : Counts). d.starved) s, t.starved);
-  quiets = omega (arith, ap (λ (d : Counts). d.quiets) s, t.quiets);
-}
+fell_behind a b c s t = fell_then a b c (none_fell a b s) t
 
 pub caused_behind : (end : HttpEnd) (a b c : Counts) → NoneRose a b → IsCaused end b c → IsCaused end a c
 caused_behind End a b c s r = r ∙ ap (λ (d : Counts). record d { ended = c.ended }) s
@@ -44,9 +41,6 @@ caused_behind Fault a b c s r = subst (λ n. Rose n c.faults) (ap (λ (d : Count
 caused_behind Quiet a b c s r = subst (λ n. Rose n c.quiets) (ap (λ (d : Counts). d.quiets) s) r
 caused_behind (Budget taken) a b c s r = r ∙ ap (λ (d : Counts). record d { ended = c.ended }) s
 caused_behind Memory a b c s r = subst (λ n. Rose n c.starved) (ap (λ (d : Counts). d.starved) s) r
-
-failure_fell : (a b : Counts) → CountsFailure a b → NoneFell a b
-failure_fell a b f = record { faults = f.faults; starved = f.starved; quiets = omega (arith, ap (λ (d : Counts). d.quiets) f.same) }
 
 -- the end after a call that failed: which count rose decides
 pub failure_caused : (a b c : Counts) (result : HttpEnd) → NoneRose a b → CountsFailure b c → IsEndOf Fault a.starved c.starved result → IsCaused result a c

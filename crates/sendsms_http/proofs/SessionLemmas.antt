@@ -10,25 +10,11 @@ use Rattle.kn_base.specs.Count.{Counts}
 use Rattle.kn_base.specs.Course.{Course, with_more, Ends}
 use Rattle.kn_base.specs.Talk.{said_of, heard_of, SaysAll}
 use Rattle.kn_base.specs.declared.piece.Piece.TheVariants.{Heard}
+use Rattle.kn_base.proofs.Readings.{AddsAll-nil, AddsAll-append}
 use Rattle.kn_base.proofs.Talks.{said_of-append, heard_of-append, with_more-nil, with_more-with_more}
-use Rattle.sendsms_http.specs.Session.{Exchange, text_of, IsKept, heard_in, said_in, AreAmong, AddsAll}
+use Rattle.sendsms_http.specs.Session.{Exchange, text_of, IsKept, heard_in, said_in, AreAmong}
 use Rattle.sendsms_http.specs.SessionSteps.{Stands, Has}
 use Rattle.sendsms_http.proofs.Exchanges.{heard_last, said_last, among_more, prompt_none, prompt_said, prompt_heard}
-
--- ---- the clock
-
-pub AddsAll-nil : (told : Option (List ℕ)) → AddsAll [] told told
-AddsAll-nil None = tt
-AddsAll-nil (Some xs) = (xs, refl, sym (append-nil xs))
-
--- one reading more
-pub AddsAll-more : (readings : List ℕ) (reading : ℕ) (told tells now : Option (List ℕ)) → AddsAll readings told tells → Adds reading tells now
-    → AddsAll (readings ++ reading ∷ []) told now
-AddsAll-more readings reading told tells None all one = tt
-AddsAll-more readings reading told None (Some now) all one = cc
-AddsAll-more readings reading told (Some tells) (Some now) all one =
-    let same : one.0 ≡ tells = cc in
-    (all.0, all.1, one.2 ∙ ap (λ front. front ++ reading ∷ []) (same ∙ all.2) ∙ append_assoc all.0 readings (reading ∷ []))
 
 -- ---- the store's count of faults
 
@@ -120,7 +106,7 @@ module _ {S : Type 0} (leads : S → List Deed → S → Type 0) (faults : S →
   has_read times more deeds tells now later reading h adds among = record {
     readings = h.readings ++ reading ∷ [];
     timed = among_more times h.readings more reading h.timed among;
-    clock = AddsAll-more h.readings reading told tells now h.clock adds;
+    clock = AddsAll-append h.readings (reading ∷ []) told tells now h.clock adds;
     led = h.led;
     counts = h.counts;
   }

@@ -14,7 +14,8 @@ use Rattle.http_text.specs.declared.answer.Answer.{Answer}
 use Rattle.http_text.specs.declared.answer.Answer.TheVariants.{BadRequest, OutOfMemory}
 use Rattle.http_text.specs.declared.answer.spot.Spot.TheVariants as spot_is
 use Rattle.http_text.specs.declared.head.Head.{Head}
-use Rattle.kn_base.specs.Count.{Counts, Rose}
+use Rattle.kn_base.specs.Clock.{AddsAll}
+use Rattle.kn_base.specs.Count.{Counts, NoneFell, Rose}
 use Rattle.kn_base.specs.Course.{Course, with_more}
 use Rattle.kn_base.specs.Talk.{said_of, heard_of}
 use Rattle.kn_base.specs.declared.piece.Piece.{Piece}
@@ -188,12 +189,6 @@ IsPrompt settings pieces =
 
 -- ---- one connection
 
--- no count of the peer fell
-pub record NoneFell (old new : Counts) : Type 0 where
-  pub faults : old.faults ≤ new.faults
-  pub starved : old.starved ≤ new.starved
-  pub quiets : old.quiets ≤ new.quiets
-
 -- what stands behind the end: no count rose, or that of its cause did
 abbrev pub IsCaused : HttpEnd → Counts → Counts → Type 0
 IsCaused End old new = new ≡ record old { ended = new.ended }
@@ -219,10 +214,6 @@ pub record Talks (settings : Settings) (budget : ℕ) (old new : Course) (readin
   pub spent : IsSpent end budget (length (heard_of pieces))
   pub fell : NoneFell old.counts new.counts
   pub caused : IsCaused end old.counts new.counts
-
--- where the readings are told now, they were told before, and these were added
-abbrev pub AddsAll : List ℕ → Option (List ℕ) → Option (List ℕ) → Type 0
-AddsAll readings old new = IfSome new (λ now. (before : List ℕ) × (old ≡ Some before) × (now ≡ before ++ readings))
 
 -- One session: what it did to its peer, the clock and the store.
 pub record Serves

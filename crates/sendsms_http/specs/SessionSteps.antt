@@ -19,7 +19,7 @@ use Rattle.kn_base.specs.declared.piece.Piece.{Piece}
 use Rattle.kn_base.specs.declared.piece.Piece.TheVariants as piece_is
 use Rattle.sms_record.specs.declared.sms.Sms.{Sms}
 use Rattle.sendsms_http.specs.Request.{asked}
-use Rattle.sendsms_http.specs.Session.{Exchange, IsExchange, IsKept, heard_in, said_in, times_in, deeds_in, AreAmong, IsPrompt, AddsAll, Serves}
+use Rattle.sendsms_http.specs.Session.{Exchange, IsExchange, IsKept, heard_in, said_in, times_in, deeds_in, AreAmong, IsPrompt, Serves}
 use Rattle.sendsms_http.specs.Visit.{given_octets}
 use Rattle.sendsms_http.specs.declared.http_end.HttpEnd.{HttpEnd}
 use Rattle.sendsms_http.specs.declared.http_end.HttpEnd.TheVariants as end_is
