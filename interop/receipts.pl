@@ -1,12 +1,12 @@
 #!/usr/bin/perl
 # A centre for one session of `boxes link`, by Net::SMPP's server side. It takes each message but one, which it refuses, and sends receipts as SMPP 3.4, appendix B
 # writes them: which state each message gets, by its text, stands in the table below. When each receipt has its answer, it ends the session.
-#   receipts.pl PORT
+#   receipts.pl PORT [COUNT]   COUNT is how many messages come, all of the table where it isn't given
 use strict;
 use warnings;
 use Net::SMPP;
 
-my ($port) = @ARGV;
+my ($port, $count) = @ARGV;
 my $failed = 0;
 $| = 1;
 $SIG{ALRM} = sub { print "FAILED: the centre waits in vain\n"; exit 1 };
@@ -56,7 +56,7 @@ my $login = $link->read_pdu or die 'no login';
 $link->bind_transceiver_resp(seq => $login->{seq}, status => 0, system_id => 'centre');
 report($link, 'id-of-nobody', 'DELIVRD', 'nobody');
 
-my $left = keys %states;
+my $left = $count // keys %states;
 while (my $pdu = $link->read_pdu) {
     if ($pdu->{cmd} == 0x04) { take($link, $pdu); $left -= 1; }
     elsif ($pdu->{cmd} == 0x80000006) { exit $failed; }

@@ -5,45 +5,10 @@
 #
 #   interop/smpp.sh [PROGRAM]   PORT names the port of the centre, 12775 where it isn't set; PROGRAM is ./boxes of the repository where it isn't named
 here=$(CDPATH= cd -- "$(dirname -- "$0")/.." && pwd) || exit 1
-program=${1:-$here/boxes}
 port=${PORT:-12775}
-perl -MNet::SMPP -e 1 2> /dev/null || { echo "skipped: Net::SMPP isn't installed (Debian's package libnet-smpp-perl)"; exit 0; }
-room=$(mktemp -d) || exit 1
-trap 'kill "$centre" 2> /dev/null; rm -rf "$room"' EXIT
-cd "$room" || exit 1
-sed "s/^port = .*/port = $port/" "$here/examples/gate.conf" > gate.conf
+. "$here/interop/common.sh"
+begin "$1"
 sed 's/^smsc-password = .*/smsc-password = wrong/' gate.conf > wrong.conf
-# (the first run builds the program)
-"$program" > /dev/null 2>&1
-failed=0
-
-same() {
-    if [ "$2" = "$3" ]; then echo "ok: $1"; else echo "FAILED: $1: $2, wanted: $3"; failed=1; fi
-}
-
-# Asks for a message over HTTP, by the variables behind the user's.
-ask() {
-    said=$(printf 'GET /cgi-bin/sendsms?username=tester&password=foobar&%s HTTP/1.0\r\n\r\n' "$2" | "$program" door gate.conf 2>&1 | tail -n 1)
-    same "door: $1" "$said" '3: Queued for later delivery'
-}
-
-# What `show` counts, on one line.
-counts() { "$program" show gate.conf | tr '\n' ' '; }
-
-# Runs `link` beside a centre, and leaves what both say in files.
-link() {
-    rm -f heard
-    perl "$here/interop/centre.pl" "$port" secret > heard 2>&1 &
-    centre=$!
-    for i in 1 2 3 4 5 6 7 8 9 10; do
-        grep -q listening heard 2> /dev/null && break
-        sleep 0.5
-    done
-    "$program" link "$1" main > said 2>&1
-    status=$?
-    wait "$centre" || { echo "FAILED: the centre"; failed=1; }
-    sed 's/^/    centre: /' heard
-}
 
 long=$(head -c 400 /dev/zero | tr '\0' a)
 ask '7 bits with a euro sign' 'from=123&to=0123456&text=5%E2%82%AC+each'
@@ -53,12 +18,12 @@ ask 'three parts with a header' "from=123&to=0123456&coding=0&udh=%03p%01x&text=
 ask 'validity' 'from=123&to=%2B4912345&validity=60&text=soon'
 same 'show before' "$(counts)" 'accepted 7 acked 0 rejected 0 waiting 7 awaited 0 unmatched 0 jobs 0 called 0 dropped 0 arrived 0 arrivals 0 entries 5 '
 
-link wrong.conf
+link wrong.conf centre.pl secret
 same 'link with a wrong password: status' "$status" 10
 same 'link with a wrong password: line' "$(cat said)" 'boxes: link: login refused 14'
 same 'show behind it' "$(counts)" 'accepted 7 acked 0 rejected 0 waiting 7 awaited 0 unmatched 0 jobs 0 called 0 dropped 0 arrived 0 arrivals 0 entries 5 '
 
-link gate.conf
+link gate.conf centre.pl secret
 same 'link: status' "$status" 0
 same 'link: nothing on standard output and error' "$(cat said)" ''
 same 'link: the message of 8 bits is sent again' "$(grep -c 'message 8 bits: status' heard)" 2
