@@ -32,8 +32,7 @@ awk -v n="$count" 'BEGIN {
     for (i = 1; i <= n; i++) printf "GET %s HTTP/1.1\r\nHost: h\r\n%s\r\n", target, i == n ? "Connection: close\r\n" : ""
 }' > requests.http
 
-now() { date +%s%N; }
-median() { sort -n "$1" | awk '{ t[NR] = $1 } END { print t[int((NR + 1) / 2)] }'; }
+. "$here/bench/timing.sh"
 
 # Puts last in the file NAME.times the time of a run of all requests under a configuration, each of which is answered by this status, less that of a
 # run of none over the same store, in microseconds a request.
@@ -58,9 +57,9 @@ while [ "$i" -lt "$runs" ]; do
     ./commit disk.bin "$count" "$unit" >> disk.times
     i=$((i + 1))
 done
-store=$(median store.times)
-refused=$(median refused.times)
-disk=$(median disk.times)
+store=$(median < store.times)
+refused=$(median < refused.times)
+disk=$(median < disk.times)
 ratio() { awk -v a="$1" -v b="$2" 'BEGIN { printf "%.2f", a / b }'; }
 echo "a request with its commit: $store microseconds; without it: $refused; two writes with two syncs: $disk (medians of $runs runs of $count)"
 echo "a commit reaches $(ratio "$disk" $((store - refused))) of the disk's pace, a whole request $(ratio "$disk" "$store")"

@@ -46,7 +46,7 @@ large_store() {
     rm -f head.bin unit.bin units.bin
 }
 
-now() { date +%s%N; }
+. "$here/bench/timing.sh"
 
 # Prints the median of RUNS runs, in microseconds; the words given run before each.
 median_of() {
@@ -58,7 +58,7 @@ median_of() {
         end=$(now)
         echo $(((end - start) / 1000))
         i=$((i + 1))
-    done | sort -n | awk '{ t[NR] = $1 } END { print t[int((NR + 1) / 2)] }'
+    done | median
 }
 
 peak_memory() {

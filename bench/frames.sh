@@ -8,32 +8,14 @@ set -eu
 here=$(CDPATH= cd -- "$(dirname -- "$0")/.." && pwd)
 count=${1:-1000000}
 runs=${2:-9}
-program=$here/crates/frame_bench/out/frame_bench
-if [ ! -x "$program" ]; then
-    command -v rt > /dev/null 2>&1 || { echo "frames.sh: skipped (no rt to build the program)"; exit 0; }
-    echo "frames.sh: building the program" >&2
-    (cd "$here/crates/frame_bench" && rt run -- both 1 < /dev/null > /dev/null 2>&1)
-fi
+. "$here/bench/timing.sh"
+need_program frame_bench both 1
 room=$(mktemp -d)
 trap 'rm -rf "$room"' EXIT
 octets=$((count * 92))
 
-# The median of the runs of a course, in microseconds of processor time, or `wrong` where one counts otherwise.
-median() {
-    TIMEFORMAT='%3U %3S'
-    for _ in $(seq "$runs"); do
-        { time "$program" "$1" "$count" > "$room/said"; } 2>&1
-        [ "$(cat "$room/said")" = "submits $((count * 67)), replies $((count * 25))" ] || echo wrong
-    done > "$room/times"
-    if grep -q wrong "$room/times"; then
-        echo wrong
-        return
-    fi
-    awk '{ print ($1 + $2) * 1000000 }' "$room/times" | sort -n | awk '{ t[NR] = $1 } END { print t[int((NR + 1) / 2)] }'
-}
-
 for course in write both; do
-    took=$(median "$course")
+    took=$(processor_time "$runs" "submits $((count * 67)), replies $((count * 25))" "$course" "$count")
     case $took in
         wrong) echo "frames.sh: $course counts otherwise than it must"; exit 1 ;;
         0) echo "$course: too short to time" ;;

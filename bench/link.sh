@@ -33,7 +33,7 @@ awk -v n="$count" 'BEGIN {
     }
 }' > "$disk/requests.http"
 
-median() { sort -n | awk '{ t[NR] = $1 } END { print t[int((NR + 1) / 2)] }'; }
+. "$here/bench/timing.sh"
 
 # The microseconds of one run in a folder with a window.
 run() {

@@ -10,6 +10,7 @@ set -eu
 here=$(CDPATH= cd -- "$(dirname -- "$0")/.." && pwd)
 runs=${1:-20}
 program=$here/crates/boxes/out/boxes
+. "$here/bench/timing.sh"
 
 room=$(mktemp -d)
 trap 'rm -rf "$room"' EXIT
@@ -35,12 +36,12 @@ measure() {
     time=$(i=0
         while [ "$i" -lt "$runs" ]; do
             rm -f gate.store.*
-            start=$(date +%s%N)
+            start=$(now)
             "$program" door gate.conf < "$1" > /dev/null
-            end=$(date +%s%N)
+            end=$(now)
             echo $(((end - start) / 1000))
             i=$((i + 1))
-        done | sort -n | awk '{ t[NR] = $1 } END { print t[int((NR + 1) / 2)] }')
+        done | median)
     if [ -x /usr/bin/time ]; then
         rm -f gate.store.*
         /usr/bin/time -f %M -o peak "$program" door gate.conf < "$1" > /dev/null

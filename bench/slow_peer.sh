@@ -8,12 +8,8 @@
 set -eu
 
 here=$(CDPATH= cd -- "$(dirname -- "$0")/.." && pwd)
-program=$here/crates/connection_bench/out/connection_bench
-if [ ! -x "$program" ]; then
-    command -v rt > /dev/null 2>&1 || { echo "slow_peer.sh: skipped (no rt to build the program)"; exit 0; }
-    echo "slow_peer.sh: building the program" >&2
-    (cd "$here/crates/connection_bench" && rt run -- small 0 0 1 < /dev/null > /dev/null 2>&1)
-fi
+. "$here/bench/timing.sh"
+need_program connection_bench small 0 0 1
 failed=0
 
 # Serves a connection of these words, and compares what it came to, and its seconds of processor time with the most that they may be.

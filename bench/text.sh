@@ -7,23 +7,14 @@ set -eu
 
 here=$(CDPATH= cd -- "$(dirname -- "$0")/.." && pwd)
 runs=${1:-20}
-program=$here/crates/text_bench/out/text_bench
-if [ ! -x "$program" ]; then
-    command -v rt > /dev/null 2>&1 || { echo "text.sh: skipped (no rt to build the program)"; exit 0; }
-    echo "text.sh: building the program" >&2
-    (cd "$here/crates/text_bench" && rt run < /dev/null > /dev/null 2>&1)
-fi
+. "$here/bench/timing.sh"
+need_program text_bench
 
 i=0
 while [ "$i" -lt "$runs" ]; do
-    start=$(date +%s%N)
+    start=$(now)
     "$program"
-    end=$(date +%s%N)
+    end=$(now)
     echo $(((end - start) / 1000))
     i=$((i + 1))
-done | sort -n | awk '
-    { t[NR] = $1 }
-    END {
-        median = t[int((NR + 1) / 2)]
-        printf "1,009,800 septets: %d microseconds (median of %d), %d septets a microsecond\n", median, NR, 1009800 / median
-    }'
+done | median | awk -v runs="$runs" '{ printf "1,009,800 septets: %d microseconds (median of %d), %d septets a microsecond\n", $1, runs, 1009800 / $1 }'
