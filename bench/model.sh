@@ -1,29 +1,29 @@
 #!/bin/bash
 # Times messages that go through a gate, 1,000, 10,000 and 1,000,000 of them, in processor time: accepted one an entry; then taken by
-# one link with a window of 10, and acknowledged in their order; the same, but each full window in another order; and read from
-# entries. Short runs are made nine times, for their median. The program is crates/model_bench; what it counts is compared.
+# one link with a window of 10, and acknowledged in their order; the same, but each full window in another order; in their order again, where each
+# asks for reports and gets an id; then with a thousand reports on the last of them, each of which makes a job; and read from entries. Short runs
+# are made nine times, for their median. The program is crates/model_bench; what it counts is compared.
 #
 #   bench/model.sh
 #
 # It fails where a message among a million takes more than twice the time that it takes among ten thousand, where a million take
-# 600 MB or more, or where a million entries take more than 4 s to read.
+# 600 MB or more, where a million entries take more than 4 s to read, or where a report among ten thousand awaited ones takes more than 0.1 ms.
 set -eu
 
 here=$(CDPATH= cd -- "$(dirname -- "$0")/.." && pwd)
-program=$here/crates/model_bench/out/model_bench
-if [ ! -x "$program" ]; then
-    command -v rt > /dev/null 2>&1 || { echo "model.sh: skipped (no rt to build the program)"; exit 0; }
-    echo "model.sh: building the program" >&2
-    (cd "$here/crates/model_bench" && rt run -- accept 1 < /dev/null > /dev/null 2>&1)
-fi
+. "$here/bench/timing.sh"
+need_program model_bench accept 1
 [ -x /usr/bin/time ] || echo "model.sh: no peak memory (no /usr/bin/time)" >&2
 failed=0
+reports=1000 # that come in the course `reported`
 
 # What a course of so many messages must count.
 counts() {
     case $1 in
-        accept | load) echo "accepted $2, acked 0, waiting $2, entries $2" ;;
-        *) echo "accepted $2, acked $2, waiting 0, entries $((2 * $2))" ;;
+        accept | load) echo "accepted $2, acked 0, waiting $2, awaited 0, jobs 0, entries $2" ;;
+        awaited) echo "accepted $2, acked $2, waiting 0, awaited $2, jobs 0, entries $((2 * $2))" ;;
+        reported) echo "accepted $2, acked $2, waiting 0, awaited $2, jobs $reports, entries $((2 * $2 + reports))" ;;
+        *) echo "accepted $2, acked $2, waiting 0, awaited 0, jobs 0, entries $((2 * $2))" ;;
     esac
 }
 
@@ -31,20 +31,6 @@ counts() {
 fail() {
     echo "FAILED: $*"
     failed=1
-}
-
-# The median of so many runs of a course, in microseconds of processor time, or `wrong` where one counts otherwise.
-median() {
-    TIMEFORMAT='%3U %3S'
-    for _ in $(seq "$3"); do
-        { time "$program" "$1" "$2" > "$room/said"; } 2>&1
-        [ "$(cat "$room/said")" = "$(counts "$1" "$2")" ] || echo wrong
-    done > "$room/times"
-    if grep -q wrong "$room/times"; then
-        echo wrong
-        return
-    fi
-    awk '{ print ($1 + $2) * 1000000 }' "$room/times" | sort -n | awk '{ t[NR] = $1 } END { print t[int((NR + 1) / 2)] }'
 }
 
 # The peak memory of a course, in KiB, or nothing.
@@ -57,7 +43,7 @@ peak() {
 
 # Runs a course over so many messages, and leaves its time in `total`, in microseconds, and its memory in `memory`, in KiB.
 run() {
-    total=$(median "$1" "$2" "$3")
+    total=$(processor_time "$3" "$(counts "$1" "$2")" "$1" "$2")
     memory=$(peak "$1" "$2")
     if [ "$total" = wrong ]; then
         fail "$1 $2: wanted $(counts "$1" "$2")"
@@ -73,7 +59,7 @@ run() {
 room=$(mktemp -d)
 trap 'rm -rf "$room"' EXIT
 
-for course in accept in_order shuffled load; do
+for course in accept in_order shuffled awaited load; do
     run "$course" 1000 9
     run "$course" 10000 9
     few=$total
@@ -82,4 +68,17 @@ for course in accept in_order shuffled load; do
     awk "BEGIN { exit !(1024 * ${memory:-0} >= 600000000) }" && fail "$course: a million take 600 MB or more"
 done
 awk "BEGIN { exit !($total > 4000000) }" && fail "a million entries take more than 4 s to read"
+
+# What a report costs among so many awaited ones: the time of a course with reports, less that of the same without, by the number of reports. Its
+# message is the newest, so that all keys are looked at.
+for count in 1000 10000 1000000; do
+    runs=9
+    [ "$count" -lt 1000000 ] || runs=1
+    run awaited "$count" "$runs"
+    without=$total
+    run reported "$count" "$runs"
+    each=$(awk "BEGIN { printf \"%.1f\", ($total - $without) / $reports }")
+    echo "a report among $count awaited ones: $each microseconds"
+    [ "$count" -eq 10000 ] && awk "BEGIN { exit !($each > 100) }" && fail "a report among ten thousand awaited ones takes more than 0.1 ms"
+done
 exit $failed

@@ -1,21 +1,26 @@
 //! Takes messages through a gate, as `bench/model.sh` has it.
 //!
 //! `model_bench accept COUNT`: a gate accepts so many messages, one an entry. `in_order`: a link then takes each, with a window of 10,
-//! and the oldest in the window is acknowledged. `shuffled`: the same, but a full window is acknowledged in another order. `load`: so
-//! many entries are read. It writes what was counted, and fails where a message was refused or memory was wanting.
+//! and the oldest in the window is acknowledged. `shuffled`: the same, but a full window is acknowledged in another order. `awaited`: as
+//! `in_order`, but each message asks for reports, and the centre gives each an id. `reported`: then a thousand reports come on the last of
+//! them. `load`: so many entries are read. It writes what was counted, and fails where a message was refused or memory was wanting.
 #![tactic(auto)]
+
+ghost use Rattle.gate_model.specs.Gate.{IsGate};
 
 mod loading;
 mod message;
 mod passage;
+mod reports;
 mod rules;
 
-use gate_model::Totals;
+use gate_model::{Gate, Totals};
 use kn_base::{HostPeer, Memory, Octets, write_all};
 use line_cases::{number, put_named};
 use loading::load;
-use message::payload_of;
-use passage::{accept_all, acknowledge_all, acknowledge_shuffled, born, bring_up};
+use message::{Asked, payload_of};
+use passage::{Naming, accept_all, acknowledge_all, acknowledge_shuffled, born, bring_up};
+use reports::report_often;
 use std::alloc::Global;
 use std::env;
 use std::process::ExitCode;
@@ -27,6 +32,8 @@ enum Course {
     Accept,
     InOrder,
     Shuffled,
+    Awaited,
+    Reported,
     Load,
 }
 
@@ -35,28 +42,54 @@ fn course_of(word: &[u8]) -> Course {
     match word {
         b"in_order" => Course::InOrder,
         b"shuffled" => Course::Shuffled,
+        b"awaited" => Course::Awaited,
+        b"reported" => Course::Reported,
         b"load" => Course::Load,
         _ => Course::Accept,
     }
 }
 
-/// So many messages are accepted, and where a link is to take them, each is taken and acknowledged.
+/// What the messages of a course ask for.
+fn asked_in(course: Course) -> Asked {
+    match course {
+        Course::Awaited | Course::Reported => Asked::Reports,
+        Course::Accept | Course::InOrder | Course::Shuffled | Course::Load => Asked::Nothing,
+    }
+}
+
+/// A link that is up takes each of so many messages, and its centre takes them, and reports on the last, by a course.
+fn send(alloc: Global, gate: &mut Gate, count: u64, course: Course) -> bool
+    requires { IsGate gate.old }
+    ensures { IsGate gate.new }
+{
+    match course {
+        Course::Accept | Course::Load => true,
+        Course::InOrder => acknowledge_all(alloc, gate, count, Naming::Nothing),
+        Course::Shuffled => acknowledge_shuffled(alloc, gate, count),
+        Course::Awaited => acknowledge_all(alloc, gate, count, Naming::Numbers),
+        Course::Reported => {
+            acknowledge_all(alloc, gate, count, Naming::Numbers) && report_often(alloc, gate, count)
+        }
+    }
+}
+
+/// So many messages are accepted, and sent by a course.
 fn pass_through(alloc: Global, payload: &[u8], count: u64, course: Course) -> Option<Totals> {
     let mut gate = born(alloc)?;
-    let mut done = accept_all(alloc, &mut gate, payload, count);
-    if done && !matches!(course, Course::Accept) {
-        bring_up(&mut gate);
-        done = match course {
-            Course::Shuffled => acknowledge_shuffled(alloc, &mut gate, count),
-            _ => acknowledge_all(alloc, &mut gate, count),
-        };
+    if !accept_all(alloc, &mut gate, payload, count) {
+        return None;
     }
-    if done { Some(gate.totals()) } else { None }
+    bring_up(&mut gate);
+    if send(alloc, &mut gate, count, course) {
+        Some(gate.totals())
+    } else {
+        None
+    }
 }
 
 /// What a course comes to. `None` where a message was refused, or there was no memory.
 fn run(alloc: Global, course: Course, count: u64) -> Option<Totals> {
-    let payload = payload_of(alloc).ok()?;
+    let payload = payload_of(alloc, asked_in(course)).ok()?;
     match course {
         Course::Load => load(alloc, payload.as_slice(), count),
         _ => pass_through(alloc, payload.as_slice(), count, course),
@@ -69,6 +102,8 @@ fn line_of(alloc: Global, totals: Totals) -> Result<Octets, Memory> {
     put_named(&mut line, b"accepted ", totals.accepted)?;
     put_named(&mut line, b", acked ", totals.acked)?;
     put_named(&mut line, b", waiting ", totals.waiting)?;
+    put_named(&mut line, b", awaited ", totals.awaited)?;
+    put_named(&mut line, b", jobs ", totals.jobs)?;
     put_named(&mut line, b", entries ", totals.entries)?;
     line.push(b'\n')?;
     Ok(line)

@@ -1,6 +1,6 @@
 //! The way of messages through a gate.
 
-ghost use Rattle.std.specs.Prelude.{◌≡◌, ◌∷◌, [], false, IfSome};
+ghost use Rattle.std.specs.Prelude.{◌≡◌, ◌≤◌, ◌∷◌, [], false, length, IfSome};
 ghost use Rattle.gate_entries.specs.Entry.{IsEntry};
 ghost use Rattle.gate_model.specs.Gate.{IsGate, model_of};
 
@@ -35,7 +35,7 @@ pub(crate) fn born(alloc: Global) -> Option<Gate>
 }
 
 /// Hands a gate an entry, and says whether it took it.
-fn put_entry(gate: &mut Gate, entry: Recorded) -> bool
+pub(crate) fn put_entry(gate: &mut Gate, entry: Recorded) -> bool
     requires whole { IsGate gate.old }
     requires spelled { IsEntry entry }
     ensures whole { IsGate gate.new }
@@ -105,34 +105,62 @@ fn take(gate: &mut Gate) -> Option<u64>
     Some(message)
 }
 
+/// How a centre names a message that it takes: by its number, or not at all.
+#[derive(Clone, Copy)]
+pub(crate) enum Naming {
+    Numbers,
+    Nothing,
+}
+
+/// What a centre names a message. `None` where there is no memory.
+pub(crate) fn name_of(alloc: Global, message: u64, naming: Naming) -> Option<Octets>
+    ensures { IfSome result (λ name. length name ≤ 8) }
+{
+    match naming {
+        Naming::Numbers => Octets::from_slice(alloc, &message.to_be_bytes()).ok(),
+        Naming::Nothing => Some(Octets::new(alloc)),
+    }
+}
+
+/// The centre took a message. Whether it is so is said.
+fn acknowledge_one(alloc: Global, gate: &mut Gate, message: u64, naming: Naming) -> bool
+    requires { IsGate gate.old }
+    ensures { IsGate gate.new }
+{
+    let Some(foreign) = name_of(alloc, message, naming) else {
+        return false;
+    };
+    put_entry(
+        gate,
+        Recorded::Acked(Acked {
+            message,
+            smsc: Octets::new(alloc),
+            foreign,
+            time: NOW,
+        }),
+    )
+}
+
 /// The centre took a message of the window, where there is one. Whether it is so is said.
-fn acknowledge(alloc: Global, gate: &mut Gate, taken: Option<u64>) -> bool
+fn acknowledge(alloc: Global, gate: &mut Gate, taken: Option<u64>, naming: Naming) -> bool
     requires { IsGate gate.old }
     ensures { IsGate gate.new }
 {
     match taken {
-        Some(message) => {
-            let acked = Acked {
-                message,
-                smsc: Octets::new(alloc),
-                foreign: Octets::new(alloc),
-                time: NOW,
-            };
-            put_entry(gate, Recorded::Acked(acked))
-        }
+        Some(message) => acknowledge_one(alloc, gate, message, naming),
         None => true,
     }
 }
 
 /// The link takes each of so many messages, and the oldest in its window is acknowledged before it takes another.
-pub(crate) fn acknowledge_all(alloc: Global, gate: &mut Gate, count: u64) -> bool
+pub(crate) fn acknowledge_all(alloc: Global, gate: &mut Gate, count: u64, naming: Naming) -> bool
     requires { IsGate gate.old }
     ensures { IsGate gate.new }
 {
     let mut window: Window = [None; WINDOW];
     for turn in 0..count.saturating_add(WINDOW as u64) {
         let place = (turn % WINDOW as u64) as usize;
-        if !acknowledge(alloc, gate, window[place]) {
+        if !acknowledge(alloc, gate, window[place], naming) {
             return false;
         }
         window[place] = take(gate);
@@ -158,7 +186,12 @@ fn empty(alloc: Global, gate: &mut Gate, window: &Window) -> bool
     ensures { IsGate gate.new }
 {
     for turn in 0..WINDOW {
-        if !acknowledge(alloc, gate, window[(7 * turn + 3) % WINDOW]) {
+        if !acknowledge(
+            alloc,
+            gate,
+            window[(7 * turn + 3) % WINDOW],
+            Naming::Nothing,
+        ) {
             return false;
         }
     }
