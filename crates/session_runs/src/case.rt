@@ -2,6 +2,18 @@
 
 use line_cases::{cut_at, cut_item, number};
 
+/// How often `link` is run in a case.
+#[derive(Clone, Copy)]
+pub enum Runs {
+    Once,
+    /// `each disk call`: once for each call of its disk, which fails, and once where none does.
+    EachDiskCall,
+    /// `each peer call`: the same for each call of what comes, by `hears`.
+    EachPeerCall,
+    /// `each stop`: once, and then `show` is run over what a stop in each call of its disk leaves.
+    EachStop,
+}
+
 /// What a case sets up.
 #[derive(Clone, Copy)]
 pub struct Case<'a> {
@@ -26,6 +38,7 @@ pub struct Case<'a> {
     /// `no peer`: the dialer has none. `dial fails`: it fails.
     pub no_peer: bool,
     pub dial_fails: bool,
+    pub runs: Runs,
 }
 
 /// A link of SMPP with a centre that takes all.
@@ -41,7 +54,18 @@ const PLAIN: Case<'static> = Case {
     quiets: 0,
     no_peer: false,
     dial_fails: false,
+    runs: Runs::Once,
 };
+
+/// What is behind `each`.
+fn runs_of(text: &[u8]) -> Runs {
+    match text {
+        b"disk call" => Runs::EachDiskCall,
+        b"peer call" => Runs::EachPeerCall,
+        b"stop" => Runs::EachStop,
+        _ => Runs::Once,
+    }
+}
 
 /// Adds an item.
 fn add_item<'a>(case: &mut Case<'a>, item: &'a [u8]) {
@@ -52,6 +76,7 @@ fn add_item<'a>(case: &mut Case<'a>, item: &'a [u8]) {
         b"smsc" => case.smsc = value,
         b"kind" => case.kind = value,
         b"clock" => case.clock = value,
+        b"each" => case.runs = runs_of(value),
         _ => add_peer_item(case, name, value),
     }
 }

@@ -51,8 +51,8 @@ fn put_said(report: &mut Octets, past: &Past) -> Result<(), Memory> {
     Ok(())
 }
 
-/// Puts last how a worker's sessions ended, and what was said in them.
-pub fn put_worker<H: House>(report: &mut Octets, worker: &WorkerEnd<H>) -> Result<(), Memory> {
+/// Puts last how a worker's sessions ended, and what was said in them. Whether a call of a peer failed.
+pub fn put_worker<H: House>(report: &mut Octets, worker: &WorkerEnd<H>) -> Result<bool, Memory> {
     for end in worker.ends.as_slice() {
         report.extend_from_slice(b" | ")?;
         match end {
@@ -60,11 +60,13 @@ pub fn put_worker<H: House>(report: &mut Octets, worker: &WorkerEnd<H>) -> Resul
             SessionEnd::Http(_) => report.extend_from_slice(b"http")?,
         }
     }
+    let mut has_failed = false;
     for past in worker.pasts.as_slice() {
         report.extend_from_slice(b" | said")?;
         put_said(report, past)?;
+        has_failed = has_failed || past.faults > 0;
     }
-    Ok(())
+    Ok(has_failed)
 }
 
 /// Puts the octets last that were said in a talk.

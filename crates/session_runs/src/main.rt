@@ -4,9 +4,11 @@
 
 mod case;
 mod ends;
+mod failing;
 mod house;
 mod peers;
 mod run;
+mod stops;
 
 use case::read_case;
 use kn_base::{Memory, Octets};

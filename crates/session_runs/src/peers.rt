@@ -24,8 +24,22 @@ fn take_of(alloc: Global, word: &[u8]) -> Result<MemTake, Memory> {
     }
 }
 
-/// A peer that says these takes, and then is quiet so often.
-pub fn heard_peer(alloc: Global, text: &[u8], quiets: u64) -> Result<MemPeer, Memory>
+/// A list with the number, where there is one.
+pub fn numbers_of(alloc: Global, number: Option<u64>) -> Result<Vec<u64>, Memory> {
+    let mut numbers = Vec::new(alloc);
+    if let Some(number) = number {
+        numbers.push(number)?;
+    }
+    Ok(numbers)
+}
+
+/// A peer that says these takes, and then is quiet so often. One call of it may fail.
+pub fn heard_peer(
+    alloc: Global,
+    text: &[u8],
+    quiets: u64,
+    failing: Option<u64>,
+) -> Result<MemPeer, Memory>
     ensures { IfOk result (λ peer. IsFresh (mem_course peer)) }
 {
     let mut takes = Vec::new(alloc);
@@ -35,7 +49,7 @@ pub fn heard_peer(alloc: Global, text: &[u8], quiets: u64) -> Result<MemPeer, Me
     for _ in 0..quiets {
         takes.push(MemTake::Quiet)?;
     }
-    Ok(MemPeer::new(alloc, takes, Vec::new(alloc)))
+    Ok(MemPeer::new(alloc, takes, numbers_of(alloc, failing)?))
 }
 
 /// `good:ID`, `refuse:STATUS`, `silent`.
