@@ -1,8 +1,6 @@
 -- What a session wishes may be done.
 use Rattle.std.proofs.Common.{◌≡◌, ◌≢◌, ◌∙◌, refl, sym, ap, subst, ℕ, ◌+◌, Bool, true, inl, inr, List, [], ◌∷◌, ◌++◌, All, arith}
-use Rattle.std.specs.Prelude.{⊤, Option, Some, None, IfSome, IsSomeAnd, is_some, ◌&&◌, ◌==◌}
-use Rattle.std.specs.Option.{option_map_or}
-use Rattle.std.proofs.lemmas.Bool.{cases_Bool}
+use Rattle.std.specs.Prelude.{⊤, Option, Some, None, IfSome, IsSomeAnd, is_some, ◌&&◌}
 use Rattle.std.proofs.lemmas.List.Elements.{All-head, All-tail}
 use Rattle.gate_entries.specs.Entry.{IsEntry}
 use Rattle.gate_entries.specs.declared.cause.Cause.TheVariants.{Centre}
@@ -19,20 +17,16 @@ use Rattle.gate_model.specs.declared.waiting.Waiting.{Waiting}
 use Rattle.gate_store.specs.Store.{IsOpen, rules_in, state_in}
 use Rattle.gate_store.specs.StoreSteps.{MayRecord}
 use Rattle.gate_store.specs.declared.store.Store.{Store}
-use Rattle.link_core.specs.Streams.{AreFrames}
 use Rattle.link_core.specs.declared.heard.Heard.{Heard}
 use Rattle.link_core.specs.declared.heard.Heard.TheVariants as heard_is
 use Rattle.link_core.specs.declared.out.Out.{Out}
 use Rattle.link_core.specs.declared.out.Out.TheVariants as out_is
-use Rattle.link_core.specs.declared.verdict.Verdict.{Verdict}
-use Rattle.link_core.specs.declared.verdict.Verdict.TheVariants.{Good, Temporary, Permanent}
-use Rattle.sms_record.specs.declared.kind.Kind.{Kind}
 use Rattle.store_disk.specs.Story.{Story}
-use Rattle.link_turn.specs.Back.{open_login, in_use, held, is_up, message_under, ended_by, IsAmong}
-use Rattle.link_turn.specs.Steps.{Step, hears, says, records, passes, takes, leaves, heards_in, times_in, times_of_entry}
-use Rattle.link_turn.specs.Due.{Due, nothing, log_in, come_up, acknowledge, reject, give_back, report, arrive, send, say, over, left, due, due_by, due_by_code, due_by_login, due_by_verdict, entry_for}
+use Rattle.link_turn.specs.Back.{held, is_up, ended_by, IsAmong}
+use Rattle.link_turn.specs.Steps.{Step, times_in, times_of_entry}
+use Rattle.link_turn.specs.Due.{Due, nothing, log_in, come_up, acknowledge, reject, give_back, report, arrive, send, say, over, left, due, entry_for}
 use Rattle.link_turn.specs.Session.{Talk, MayBeRecorded}
-use Rattle.link_turn.specs.SessionSteps.{Records, IsToRecord, Stands, StandsIn}
+use Rattle.link_turn.specs.SessionSteps.{Records, Stands, StandsIn}
 use Rattle.link_turn.specs.Talk.{AreReadings, MayLeave}
 use Rattle.link_turn.specs.Turn.{IsOf, IsReading}
 use Rattle.link_turn.specs.TurnSteps.{MayDo}
@@ -43,7 +37,6 @@ use Rattle.link_turn.specs.declared.session.Phase.TheVariants as phase_is
 use Rattle.link_turn.specs.declared.session.Recording.{Recording}
 use Rattle.link_turn.specs.declared.session.Recording.TheVariants as recording_is
 use Rattle.link_turn.specs.declared.session.Session.{Session}
-use Rattle.link_turn.specs.declared.submitted.Asked.{Asked}
 use Rattle.link_turn.specs.declared.terms.Terms.{Terms}
 use Rattle.link_turn.specs.declared.wish.Wish.{Wish}
 use Rattle.link_turn.specs.declared.wish.Wish.TheVariants as wish_is
@@ -51,7 +44,6 @@ use Rattle.link_turn.proofs.Agreement.{held_is_leased, no_flight}
 use Rattle.link_turn.proofs.Chosen.{none_among}
 use Rattle.link_turn.proofs.Holding.{IsOfLink, IsOfThis, reading_is, in_order}
 use Rattle.link_turn.proofs.LoggingIn.{comes_up_down}
-use Rattle.link_turn.proofs.Readings.{frame_of}
 
 -- ---- readings
 

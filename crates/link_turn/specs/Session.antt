@@ -19,7 +19,7 @@ use Rattle.link_turn.specs.declared.end_cause.EndCause.{EndCause}
 use Rattle.link_turn.specs.declared.given.Given.{Given}
 use Rattle.link_turn.specs.declared.given.Given.TheVariants as given_is
 use Rattle.link_turn.specs.declared.session.Phase.{Phase}
-use Rattle.link_turn.specs.declared.session.Phase.TheVariants.{Fresh, Listening, ComingUp, GivingBack, Taking, Leaving, Done}
+use Rattle.link_turn.specs.declared.session.Phase.TheVariants.{Fresh, Listening, ComingUp, GivingBack, Taking, Leaving}
 use Rattle.link_turn.specs.declared.session.Phase.TheVariants as phase_is
 use Rattle.link_turn.specs.declared.session.Recording.{Recording}
 use Rattle.link_turn.specs.declared.session.Recording.TheVariants as recording_is

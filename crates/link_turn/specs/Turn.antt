@@ -1,5 +1,5 @@
 -- A turn of a session over a peer and a store: what it needs, what it does to them, and what came of it.
-use Rattle.std.specs.Prelude.{◌≡◌, ◌↔◌, ◌⊎◌, ⊤, ℕ, ◌+◌, ◌<◌, ◌≤◌, ◌^◌, Bool, true, false, List, [], ◌∷◌, ◌++◌, length, All, IfSome, Option, Some, slice_get}
+use Rattle.std.specs.Prelude.{◌≡◌, ◌↔◌, ◌⊎◌, ⊤, ℕ, ◌+◌, ◌<◌, ◌≤◌, ◌^◌, Bool, true, false, List, [], ◌∷◌, ◌++◌, length, All, Option, Some, slice_get}
 use Rattle.gate_model.specs.Gate.{HaveIds, lease_under}
 use Rattle.gate_model.specs.State.{State}
 use Rattle.gate_store.specs.Deeds.{Performs, Passes, Takes}

@@ -1,5 +1,5 @@
 -- What is wished once octets were looked at.
-use Rattle.std.proofs.Common.{◌≡◌, ◌≢◌, ◌⊎◌, inl, inr, ℕ, ◌<◌, ◌^◌, Bool, true, false, ◌||◌, List, [], ◌∷◌, ◌++◌, length, take, drop, All, Some, Result, Ok, Err, refl, ap, sym, ◌∙◌, subst, arith, append_assoc, take-append-drop, if◌then◌else◌, IsTrue, ◌↔◌}
+use Rattle.std.proofs.Common.{◌≡◌, ◌≢◌, ◌⊎◌, inl, inr, ℕ, ◌<◌, Bool, true, false, ◌||◌, List, [], ◌∷◌, ◌++◌, length, take, drop, All, Some, Result, Ok, Err, refl, ap, sym, ◌∙◌, subst, arith, append_assoc, take-append-drop, if◌then◌else◌, IsTrue, ◌↔◌}
 use Rattle.std.proofs.lemmas.Bool.{false≢true}
 use Rattle.std.proofs.lemmas.List.{append-nil}
 use Rattle.std.proofs.lemmas.List.Elements.{All-head, All-tail}
@@ -14,7 +14,6 @@ use Rattle.http_text.specs.declared.answer.spot.Spot.TheVariants as spot_is
 use Rattle.http_text.specs.declared.head.Head.{Head}
 use Rattle.http_text.specs.declared.head.read.HeadRead.{HeadRead}
 use Rattle.http_text.specs.declared.head.read.HeadRead.TheVariants as read_is
-use Rattle.sms_record.specs.Record.{IsSms}
 use Rattle.sms_record.specs.declared.sms.Sms.{Sms}
 use Rattle.config_groups.specs.Ranges.{IsUser}
 use Rattle.sendsms_http.specs.Request.{asked}

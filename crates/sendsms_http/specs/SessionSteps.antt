@@ -1,5 +1,5 @@
 -- The steps of a session: what was done so far, and what is due, by what the visit is given next. No public clause cites these.
-use Rattle.std.specs.Prelude.{◌≡◌, ◌≢◌, ℕ, ◌+◌, ◌*◌, ◌-◌, ◌<◌, ◌≤◌, Bool, true, false, ◌||◌, List, [], ◌∷◌, ◌++◌, length, All, Option, Result, Ok, Err}
+use Rattle.std.specs.Prelude.{◌≡◌, ℕ, ◌+◌, ◌*◌, ◌-◌, ◌<◌, ◌≤◌, Bool, true, false, ◌||◌, List, [], ◌∷◌, ◌++◌, length, All, Option, Result, Ok, Err}
 use Rattle.config_groups.specs.declared.settings.Settings.{Settings}
 use Rattle.gate_model.specs.Acceptor.{Deed, CountsFaults, MayBeHanded}
 use Rattle.gate_model.specs.declared.reply.Reply.{Reply}
@@ -11,6 +11,7 @@ use Rattle.http_text.specs.OneHead.{IsHead}
 use Rattle.http_text.specs.declared.answer.Answer.{Answer}
 use Rattle.http_text.specs.declared.answer.Answer.TheVariants.{OutOfMemory}
 use Rattle.http_text.specs.declared.head.Head.{Head}
+use Rattle.kn_base.specs.Clock.{AddsAll}
 use Rattle.kn_base.specs.Count.{Rose}
 use Rattle.kn_base.specs.Course.{Course, with_more, IsQuiet, Fails, Ends}
 use Rattle.kn_base.specs.Talk.{said_of, heard_of, SaysAll, SaysFront}
