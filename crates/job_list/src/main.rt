@@ -6,6 +6,7 @@
 //! `two` with the mask 3 and `plain` with none, and refused one with the mask 16.
 #![tactic(auto)]
 
+ghost use Rattle.std.specs.Prelude.{◌≡◌, length};
 ghost use Rattle.gate_store.specs.Store.{IsOpen};
 
 use gate_model::Totals;
@@ -24,7 +25,9 @@ use store_disk::{Disk, HostDisk};
 const BIRTH: u64 = 1;
 
 /// No links, and no room for more messages: nothing is taken.
-fn no_rules(alloc: Global) -> Rules {
+fn no_rules(alloc: Global) -> Rules
+    ensures { length result.links ≡ 0 }
+{
     Rules {
         links: Items::new(alloc),
         outgoing: 0,
@@ -32,16 +35,12 @@ fn no_rules(alloc: Global) -> Rules {
     }
 }
 
-/// Takes the next job that nobody has taken: its number and its URL.
-fn take<D: Disk>(store: &mut Store<D>) -> Result<Option<(u64, Octets)>, Memory>
+/// Takes the next job that nobody has taken: its number, its URL, and how often it was given back.
+fn take<D: Disk>(store: &mut Store<D>) -> Result<Option<(u64, Octets, u32)>, Memory>
     requires { IsOpen D.tells D.story store.old }
     ensures { IsOpen D.tells D.story store.new }
 {
-    match store.take_job() {
-        Ok(Some((job, url, _))) => Ok(Some((job, url))),
-        Ok(None) => Ok(None),
-        Err(Memory) => Err(Memory),
-    }
+    store.take_job()
 }
 
 /// Puts the next job last, where there is one, as a line.
@@ -49,7 +48,7 @@ fn put_job<D: Disk>(store: &mut Store<D>, lines: &mut Octets) -> Result<(), Memo
     requires { IsOpen D.tells D.story store.old }
     ensures { IsOpen D.tells D.story store.new }
 {
-    if let Some((job, url)) = take(store)? {
+    if let Some((job, url, _)) = take(store)? {
         put_named(lines, b"", job)?;
         lines.push(b' ')?;
         lines.extend_from_slice(url.as_slice())?;
