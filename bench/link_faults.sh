@@ -1,6 +1,6 @@
 #!/bin/sh
 # Runs `boxes link` over a store with one message that asks for all reports, beside a centre that takes it and reports that it was delivered (centre.c): once
-# with each of its allocations refused (refuse.c), and, by strace, killed at each of its write and sync calls, and with each of these failing. Behind each run the
+# with each of its allocations refused (refuse.c), and, by strace, killed at each call by which it writes, syncs, says or hears, and with each of these failing. Behind each run the
 # store opens; the message waits or is acknowledged, once; the reports that are awaited and the jobs are those of what is recorded; and a report that was
 # answered is recorded.
 #
@@ -96,8 +96,11 @@ each_call() {
     echo "$1: $((number - 1)) calls of $2, and the store opens behind each"
 }
 
-for call in write fsync; do
-    for fault in signal=KILL error=EIO error=ENOSPC; do
-        each_call "$fault" "$call"
-    done
+for fault in signal=KILL error=EIO error=ENOSPC; do
+    each_call "$fault" write
+    each_call "$fault" fsync
+done
+for fault in signal=KILL error=ECONNRESET; do
+    each_call "$fault" sendto
+    each_call "$fault" recvfrom
 done

@@ -1,8 +1,7 @@
 -- The lists of awaited messages, one under each key of an SMSC id and a foreign id.
 use Rattle.std.specs.Prelude.{◌≡◌, ◌≢◌, ℕ, Bool, false, ◌&&◌, nat_lt, List, [], ◌∷◌, map, length, filter, Option, Some, None, vec_len, vec_capacity, if◌then◌else◌}
-use Rattle.dlr_table.specs.Key.{is_key}
+use Rattle.dlr_table.specs.Key.{Ids, is_key}
 use Rattle.dlr_table.specs.declared.awaited.Awaited.{Awaited}
-use Rattle.dlr_table.specs.declared.key.Key.{Key}
 use Rattle.dlr_table.specs.declared.reports.Entry.{Entry}
 use Rattle.dlr_table.specs.declared.reports.Reports.{Reports}
 
@@ -23,7 +22,7 @@ abbrev pub count_of : Reports → ℕ
 count_of reports = length reports.entries.items
 
 -- this is the key that was made beforehand
-abbrev pub is_made : (smsc foreign : List ℕ) → Option Key → Bool
+abbrev pub is_made : (smsc foreign : List ℕ) → Option Ids → Bool
 is_made smsc foreign None = false
 is_made smsc foreign (Some key) = is_key smsc foreign key
 

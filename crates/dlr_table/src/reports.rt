@@ -5,7 +5,7 @@ ghost use Rattle.dlr_table.specs.Reports as spec;
 ghost use Rattle.dlr_table.specs.Reports.{under, spare, count_of, oldest, SameLists, SameElsewhere};
 
 use crate::Awaited;
-use crate::key::Key;
+use crate::key::{Key, mark_of};
 use kn_base::Memory;
 use std::alloc::Global;
 
@@ -115,7 +115,7 @@ impl Reports {
         ensures { result ≡ spec.is_made smsc.now foreign.now self.now.made }
     {
         match &self.made {
-            Some(key) => key.is(smsc, foreign),
+            Some(key) => key.is(smsc, foreign, mark_of(foreign)),
             None => false,
         }
     }
@@ -141,5 +141,8 @@ impl Reports {
 fn place_of(entries: &[Entry], smsc: &[u8], foreign: &[u8]) -> Option<usize>
     ensures { result ≡ position (spec.is_under smsc.now foreign.now) entries.now }
 {
-    entries.iter().position(|entry| entry.key.is(smsc, foreign))
+    let mark = mark_of(foreign);
+    entries
+        .iter()
+        .position(|entry| entry.key.is(smsc, foreign, mark))
 }
