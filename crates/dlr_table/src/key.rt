@@ -1,8 +1,7 @@
 //! What a report is matched by.
 
-ghost use Rattle.std.specs.Prelude.{◌≡◌, ◌&&◌, ◌==◌, fold, IfOk};
+ghost use Rattle.std.specs.Prelude.{◌≡◌, IfOk};
 ghost use Rattle.dlr_table.specs.Key as spec;
-ghost use Rattle.dlr_table.specs.Key.{Ids};
 
 use kn_base::{Memory, Octets};
 use std::alloc::Global;

@@ -1,4 +1,4 @@
-use Rattle.std.proofs.Common.{◌<◌, Some, None, sym, ap, ◌∙◌, subst}
+use Rattle.std.proofs.Common.{◌<◌, Some, None, sym, ◌∙◌, subst}
 use Rattle.dlr_table.specs.Reports.{spare}
 use Rattle.dlr_table.specs.declared.reports.Reports.{Reports}
 use Rattle.gate_model.specs.Gate.{model_of}

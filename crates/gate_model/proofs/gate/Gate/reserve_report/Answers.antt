@@ -1,4 +1,4 @@
-use Rattle.std.proofs.Common.{◌≡◌, ◌<◌, true, false, sym, ap, ◌∙◌, subst}
+use Rattle.std.proofs.Common.{◌≡◌, ◌<◌, true, false, sym, ◌∙◌, subst}
 use Rattle.dlr_table.specs.Reports.{spare}
 use Rattle.gate_model.proofs.AwaitedLemmas.{keeps_reports, on_ok_weaker}
 use Rattle.gate_model.proofs.gate.Gate.reserve_report.Goals as goal
