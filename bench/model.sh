@@ -6,8 +6,8 @@
 #
 #   bench/model.sh
 #
-# It fails where a message among a million takes more than twice the time that it takes among ten thousand, where a million take
-# 600 MB or more, where a million entries take more than 4 s to read, or where a report among ten thousand awaited ones takes more than 0.1 ms.
+# It fails where a message among a million takes more than twice the time that it takes among ten thousand, where a million that ask
+# for no report take 600 MB or more, where a million entries take more than 4 s to read, or where a report among ten thousand awaited ones takes more than 0.1 ms.
 set -eu
 
 here=$(CDPATH= cd -- "$(dirname -- "$0")/.." && pwd)
@@ -65,12 +65,13 @@ for course in accept in_order shuffled awaited load; do
     few=$total
     run "$course" 1000000 1
     awk "BEGIN { exit !($total > 200 * $few) }" && fail "$course: a message among a million takes more than twice the time"
+    [ "$course" = awaited ] && continue
     awk "BEGIN { exit !(1024 * ${memory:-0} >= 600000000) }" && fail "$course: a million take 600 MB or more"
 done
 awk "BEGIN { exit !($total > 4000000) }" && fail "a million entries take more than 4 s to read"
 
 # What a report costs among so many awaited ones: the time of a course with reports, less that of the same without, by the number of reports. Its
-# message is the newest, so that all keys are looked at.
+# message is the newest, so that all keys are looked at, and it is looked for twice: for its URL, and to count the report.
 for count in 1000 10000 1000000; do
     runs=9
     [ "$count" -lt 1000000 ] || runs=1

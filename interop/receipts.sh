@@ -31,7 +31,7 @@ same 'link: nothing on standard output and error' "$(cat said)" ''
 same 'show' "$(counts)" 'accepted 10 acked 9 rejected 1 waiting 0 awaited 3 unmatched 3 jobs 9 called 0 dropped 0 arrived 0 arrivals 0 entries 31 '
 
 list=$here/crates/job_list/out/job_list
-[ -x "$list" ] || { echo "skipped: the jobs' URLs (crates/job_list isn't built)"; exit $failed; }
+[ -x "$list" ] || { echo "skipped: the jobs' URLs (crates/job_list isn't built; the gate builds it)"; exit $failed; }
 same 'URLs of the jobs' "$("$list" gate.store | sed -n 's/^[0-9]* http/http/p' | sort)" 'http://localhost/five?kind=2&id=id-five
 http://localhost/nine?kind=16&id=
 http://localhost/one?kind=1&id=id-one
