@@ -24,6 +24,7 @@ for run in "$port smpp.sh" "$reports receipts.sh"; do
 done
 sleep 2
 kill -INT "$tshark" && wait "$tshark" 2> /dev/null
+
 # Fields of the frames that a filter takes, a line a packet; several frames of a packet have commas between them.
 dissect() { filter=$1; shift; tshark -r "$room/talk.pcap" -d "tcp.port==$port,smpp" -d "tcp.port==$reports,smpp" -Y "$filter" -T fields "$@" 2> /dev/null; }
 

@@ -1,7 +1,7 @@
 //! Lists the jobs of a store: the URLs that are still to be called for reports, and what it counts of them.
 //!
-//! `job_list NAME`: the store of the files NAME.a, NAME.b and NAME.pick. It writes how many reports are awaited, how many belonged to no
-//! message and how many jobs there are, and then a job a line, its number and its URL. It is for `interop/`, since no command of `boxes` prints a
+//! `job_list NAME ..`: each store of the files NAME.a, NAME.b and NAME.pick, which is made where there is none, as by `boxes`. It writes how many
+//! reports are awaited, how many belonged to no message and how many jobs there are, and then a job a line, its number and its URL. It is for `interop/`, since no command of `boxes` prints a
 //! URL, and for the store in `data/`, which a program left that knew nothing of reports: of four messages the centre took `one` with the mask 31,
 //! `two` with the mask 3 and `plain` with none, and refused one with the mask 16.
 #![tactic(auto)]
@@ -104,7 +104,7 @@ fn put_disk<D: Disk + Drop>(alloc: Global, disk: D, lines: &mut Octets) -> Resul
     }
 }
 
-/// The lines of the store that the first word names.
+/// The lines of each store that a word names.
 fn lines_of<R: Runtime + Env + Files<File = File> + AllocGlobal + Copy>(
     rt: R,
 ) -> Result<Octets, Memory> {
