@@ -8,7 +8,7 @@ use Rattle.std.proofs.lemmas.Bool.{and_parts, cases_Bool, eqb-true, eqb-false, n
 use Rattle.std.proofs.lemmas.Bool.Decides.{nat_tests}
 use Rattle.std.proofs.lemmas.List.Elements.{All-nil, All-cons}
 use Rattle.std.proofs.lemmas.Str.{IsUtf8-from_is_utf8}
-use Rattle.sms_record.specs.declared.limits.TheConstants.{MOST_DIGITS}
+use Rattle.sms_record.specs.Limits.{most_digits}
 use Rattle.sms_record.specs.Record.{IsDigit}
 use Rattle.config_values.specs.Values.{is_within, is_digits, is_printable, is_printable_octet, is_word, is_no_blank, is_path, is_list, is_entry, is_filled, is_separator, is_text, is_number_within, number_of, entries, behind_plus, is_sendable_text, sender_of, characters}
 use Rattle.config_values.specs.Forms.{IsWithin, IsPrintable, IsDigits, IsWord, IsNoBlank, IsPath, IsEntry, AreEntries, IsSender, IsText}
@@ -95,9 +95,9 @@ list value is =
 -- the address of a value is one that a message can come from, or there is none
 pub sender : (value : List ℕ) → IfSome (sender_of value) IsSender
 sender value =
-    elim (cases_Bool (is_digits MOST_DIGITS (behind_plus value))) [
+    elim (cases_Bool (is_digits most_digits (behind_plus value))) [
       | inl is ↦
-          let form = digits MOST_DIGITS (behind_plus value) is in
+          let form = digits most_digits (behind_plus value) is in
           rw is (refl, (form.0.0, form.0.1, form.1))
       | inr text ↦ elim (cases_Bool (is_sendable_text value)) [
         | inl is ↦

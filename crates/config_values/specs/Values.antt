@@ -6,7 +6,7 @@ use Rattle.std.specs.Str.{is_utf8}
 use Rattle.kn_base.specs.Decimal.{decimal_value}
 use Rattle.sms_record.specs.declared.address.Address.{Address}
 use Rattle.sms_record.specs.declared.address.Address.TheVariants.{Number, Text}
-use Rattle.sms_record.specs.declared.limits.TheConstants.{MOST_DIGITS}
+use Rattle.sms_record.specs.Limits.{most_digits}
 use Rattle.config_values.specs.declared.grammar.Grammar.{Grammar}
 use Rattle.config_values.specs.declared.grammar.Grammar.TheVariants as grammars
 
@@ -102,7 +102,7 @@ behind_plus (first ∷ rest) = if first == 43 then rest else first ∷ rest
 
 -- a number is an optional + and 1 to 15 decimal digits, and all else is a text
 abbrev pub address_of : List ℕ → Address
-address_of value = if is_digits MOST_DIGITS (behind_plus value) then Number (has_plus value) (behind_plus value) else Text value
+address_of value = if is_digits most_digits (behind_plus value) then Number (has_plus value) (behind_plus value) else Text value
 
 -- the characters that a text may hold beside letters and digits; the last is the double quotation mark
 abbrev pub marks : List ℕ

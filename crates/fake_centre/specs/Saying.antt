@@ -3,7 +3,7 @@ use Rattle.std.specs.Prelude.{◌≡◌, ℕ, List, [], ◌++◌}
 use Rattle.std.specs.List.{flat_map, AllByRecursion}
 use Rattle.smpp_wire.specs.Command.{Fields, MessageFields, Command, SubmitReply, Nothing}
 use Rattle.smpp_wire.specs.Grammar.{IsCommand, IsText, frame}
-use Rattle.smpp_wire.specs.declared.command.TheConstants.{SUBMIT_SM_RESP}
+use Rattle.smpp_wire.specs.Ids.{submit_sm_resp}
 use Rattle.fake_centre.specs.declared.reply.CentreReply.{CentreReply}
 use Rattle.fake_centre.specs.declared.reply.CentreReply.TheVariants.{Good, Refuse, Silent}
 
@@ -17,8 +17,8 @@ command_with id status sequence fields = record { id = id; status = status; sequ
 -- A message is answered (4.4.2) under its own number: with its id where it is taken and a frame can hold the id, with the status where it isn't, or
 -- not at all.
 abbrev pub AnswersSubmit : ℕ → CentreReply → List ℕ → List ℕ → Type 0
-AnswersSubmit sequence (Good id) old new = IsText 65 id → new ≡ old ++ frame (command_with SUBMIT_SM_RESP 0 sequence (SubmitReply id))
-AnswersSubmit sequence (Refuse status) old new = new ≡ old ++ frame (command_with SUBMIT_SM_RESP status sequence Nothing)
+AnswersSubmit sequence (Good id) old new = IsText 65 id → new ≡ old ++ frame (command_with submit_sm_resp 0 sequence (SubmitReply id))
+AnswersSubmit sequence (Refuse status) old new = new ≡ old ++ frame (command_with submit_sm_resp status sequence Nothing)
 AnswersSubmit sequence Silent old new = new ≡ old
 
 -- what is sent: a message without times and optional parameters

@@ -3,7 +3,7 @@
 ghost use Rattle.std.specs.Prelude.{◌≡◌, ◌≤◌, ◌++◌, length, IfOk, OnOk};
 ghost use Rattle.smpp_wire.specs.Command.{SubmitReply};
 ghost use Rattle.smpp_wire.specs.Grammar.{IsText, frame};
-ghost use Rattle.smpp_wire.specs.declared.command.TheConstants.{SUBMIT_SM_RESP};
+ghost use Rattle.smpp_wire.specs.Ids.{submit_sm_resp};
 ghost use Rattle.fake_centre.specs.Saying.{AreFrames, AnswersSubmit, command_with};
 
 use crate::delivering::{put_messages, put_reports};
@@ -71,7 +71,7 @@ fn answer_login(
 fn put_taken(into: &mut Octets, sequence: u32, id: &[u8]) -> Result<(), Memory>
     requires frames { AreFrames into.old }
     ensures frames { OnOk result (AreFrames into.new) }
-    ensures says { OnOk result (IsText 65 id.now → into.new ≡ into.old ++ frame (command_with SUBMIT_SM_RESP 0 sequence (SubmitReply id.now))) }
+    ensures says { OnOk result (IsText 65 id.now → into.new ≡ into.old ++ frame (command_with submit_sm_resp 0 sequence (SubmitReply id.now))) }
 {
     let message_id = text_front(id, MOST_ID);
     put_command(

@@ -17,7 +17,7 @@ use Rattle.sms_record.specs.declared.kind.Kind.TheVariants.{Delivered, Undeliver
 use Rattle.sms_record.specs.declared.sms.Sms.{Sms}
 use Rattle.sms_record.specs.Record.{IsSms, sms_octets}
 use Rattle.sms_record.proofs.Messages.{sms_reads}
-use Rattle.gate_entries.specs.declared.limits.TheConstants.{MOST_MESSAGES, MOST_ARRIVALS, MOST_TEXT}
+use Rattle.gate_entries.specs.Limits.{most_messages, most_arrivals, most_text}
 use Rattle.gate_entries.specs.declared.cause.Cause.{Cause}
 use Rattle.gate_entries.specs.declared.cause.Cause.TheVariants.{Centre, Expired}
 use Rattle.gate_entries.specs.declared.call_dropped.DropCause.{DropCause}
@@ -31,7 +31,7 @@ pub any_number_reads : IsReader IsNumber (number 8) number_at
 any_number_reads = reworded_reads (up_to_reads 8 (2 ^ 64 - 1) (omega arith)) (λ n good. omega (arith, good)) (λ n good. omega (arith, good))
 
 pub long_text_reads : IsReader IsText long text_at
-long_text_reads = counted_octets_reads 2 MOST_TEXT (omega arith)
+long_text_reads = counted_octets_reads 2 most_text (omega arith)
 
 -- a pair of ids
 abbrev pub AreIds : List ℕ × List ℕ → Type 0
@@ -65,19 +65,19 @@ module _ {A : Type 0} (Good : A → Type 0) (spelled : A → List ℕ) where
   pub listed_back : (least most : ℕ) (xs : List A) → Counted Good least most xs → (p : ℕ × List A) × Behind least most p × (p.1 ≡ xs) × (behind_octets p ≡ listed spelled xs)
   listed_back least most xs good = ((length xs, xs), ((good.0, good.1), (refl, recursion_from_All Good xs good.2)), refl, refl)
 
-pub messages_reads : (least : ℕ) → least ≤ MOST_MESSAGES → IsReader (Counted IsSms least MOST_MESSAGES) messages (messages_at least)
+pub messages_reads : (least : ℕ) → least ≤ most_messages → IsReader (Counted IsSms least most_messages) messages (messages_at least)
 unfolding messages_at
 messages_reads least le =
     made_reads (λ (x : ℕ × List Sms). x.1)
-    (then_reads (from_to_reads 2 least MOST_MESSAGES le (omega arith)) (λ count good. repeated_reads sms_reads count))
-    (record { there = listed_there IsSms sms_octets least MOST_MESSAGES; back = listed_back IsSms sms_octets least MOST_MESSAGES })
+    (then_reads (from_to_reads 2 least most_messages le (omega arith)) (λ count good. repeated_reads sms_reads count))
+    (record { there = listed_there IsSms sms_octets least most_messages; back = listed_back IsSms sms_octets least most_messages })
 
-pub arrivals_reads : IsReader (Counted IsNumber 1 MOST_ARRIVALS) numbers arrivals_at
+pub arrivals_reads : IsReader (Counted IsNumber 1 most_arrivals) numbers arrivals_at
 unfolding arrivals_at
 arrivals_reads =
     made_reads (λ (x : ℕ × List ℕ). x.1)
-    (then_reads (from_to_reads 2 1 MOST_ARRIVALS (omega arith) (omega arith)) (λ count good. repeated_reads any_number_reads count))
-    (record { there = listed_there IsNumber (number 8) 1 MOST_ARRIVALS; back = listed_back IsNumber (number 8) 1 MOST_ARRIVALS })
+    (then_reads (from_to_reads 2 1 most_arrivals (omega arith) (omega arith)) (λ count good. repeated_reads any_number_reads count))
+    (record { there = listed_there IsNumber (number 8) 1 most_arrivals; back = listed_back IsNumber (number 8) 1 most_arrivals })
 
 -- ---- what an octet names
 

@@ -7,7 +7,7 @@ use Rattle.exact_octets.proofs.Digits.{up_to_reads}
 use Rattle.exact_octets.proofs.Fields.{between_reads}
 use Rattle.sms_record.specs.declared.sms.Sms.{Sms}
 use Rattle.sms_record.proofs.Messages.{sms_reads}
-use Rattle.gate_entries.specs.declared.limits.TheConstants.{MOST_MESSAGES}
+use Rattle.gate_entries.specs.Limits.{most_messages}
 use Rattle.gate_entries.specs.declared.accept.Accept.{Accept}
 use Rattle.gate_entries.specs.Entry.{IsAccept, accept_fields, accept_octets, IsAcked, acked_fields, IsRejected, rejected_fields, IsReported, reported_fields, IsArrived, arrived_fields, IsAnswered, answered_fields, IsCalled, called_fields, IsCallDropped, call_dropped_fields}
 use Rattle.gate_entries.specs.EntryReading.{accept_of, accept_fields_at, accept_at, acked_of, acked_at, rejected_of, rejected_at, reported_of, reported_at, arrived_of, arrived_at, answered_of, answered_at, called_of, called_at, call_dropped_of, call_dropped_at}

@@ -8,9 +8,9 @@ use Rattle.exact_octets.specs.Spelling.{short, long}
 use Rattle.sms_record.specs.declared.address.Address.{Address}
 use Rattle.sms_record.specs.declared.address.Address.TheVariants.{Number, Text}
 use Rattle.sms_record.specs.declared.sms.Sms.{Sms}
-use Rattle.sms_record.specs.declared.limits.TheConstants.{MOST_TEXT}
+use Rattle.sms_record.specs.Limits.{most_address_text}
 use Rattle.sms_record.specs.Record.{IsAddress, IsSms, address_text, address, marks, times, heading, names, contents, sms_octets}
-use Rattle.gate_entries.specs.declared.limits.TheConstants.{MOST_MESSAGES}
+use Rattle.gate_entries.specs.Limits.{most_messages}
 use Rattle.gate_entries.specs.declared.answered.Answered.{Answered}
 use Rattle.gate_entries.specs.declared.cause.Cause.{Cause}
 use Rattle.gate_entries.specs.declared.cause.Cause.TheVariants.{Centre, Expired}
@@ -43,7 +43,7 @@ answered_size a count front result parts is same e g =
 
 -- ---- bounds
 
-address_bound : (a : Address) → IsAddress a → length (address_text a) ≤ MOST_TEXT
+address_bound : (a : Address) → IsAddress a → length (address_text a) ≤ most_address_text
 address_bound (Number plus digits) good = omega (arith, good.1)
 address_bound (Text text) good = omega (arith, good)
 
@@ -91,7 +91,7 @@ entry_bound (entry.Answered a) good = omega (arith, length-append (flat_map (num
 entry_bound (entry.Called a) good = omega arith
 entry_bound (entry.CallDropped a) good = omega arith
 
-parts_bound : (e : Recorded) → IsEntry e → length (parts_of e) ≤ MOST_MESSAGES
+parts_bound : (e : Recorded) → IsEntry e → length (parts_of e) ≤ most_messages
 parts_bound (entry.Accept a) good = good.few
 parts_bound (entry.Acked a) good = omega arith
 parts_bound (entry.Rejected a) good = omega arith

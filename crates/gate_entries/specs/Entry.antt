@@ -7,7 +7,7 @@ use Rattle.sms_record.specs.declared.kind.Kind.{Kind}
 use Rattle.sms_record.specs.declared.kind.Kind.TheVariants.{Delivered, Undelivered, Buffered, Sent, Refused}
 use Rattle.sms_record.specs.declared.sms.Sms.{Sms}
 use Rattle.sms_record.specs.Record.{IsSms, sms_octets}
-use Rattle.gate_entries.specs.declared.limits.TheConstants.{MOST_MESSAGES, MOST_ARRIVALS, MOST_TEXT}
+use Rattle.gate_entries.specs.Limits.{most_messages, most_arrivals, most_text}
 use Rattle.gate_entries.specs.declared.accept.Accept.{Accept}
 use Rattle.gate_entries.specs.declared.acked.Acked.{Acked}
 use Rattle.gate_entries.specs.declared.cause.Cause.{Cause}
@@ -31,7 +31,7 @@ IsNumber n = n < 2 ^ 64
 
 -- an SMSC id, a foreign id or a text, behind a length of two octets
 abbrev pub IsText : List ℕ → Type 0
-IsText text = length text ≤ MOST_TEXT
+IsText text = length text ≤ most_text
 
 -- an SMSC id and a foreign id
 abbrev pub ids : List ℕ → List ℕ → List ℕ
@@ -51,7 +51,7 @@ messages parts = number 2 (length parts) ++ flat_map sms_octets parts
 pub record IsAccept (accept : Accept) : Type 0 where
   pub in_time : accept.time < 2 ^ 64
   pub some : 1 ≤ length accept.parts
-  pub few : length accept.parts ≤ MOST_MESSAGES
+  pub few : length accept.parts ≤ most_messages
   pub each : All IsSms accept.parts
 
 -- the time, and the messages
@@ -137,9 +137,9 @@ arrived_fields arrived = long arrived.smsc ++ sms_octets arrived.sms
 
 pub record IsAnswered (answered : Answered) : Type 0 where
   pub some : 1 ≤ length answered.arrivals
-  pub few_arrivals : length answered.arrivals ≤ MOST_ARRIVALS
+  pub few_arrivals : length answered.arrivals ≤ most_arrivals
   pub arrivals : All IsNumber answered.arrivals
-  pub few : length answered.parts ≤ MOST_MESSAGES
+  pub few : length answered.parts ≤ most_messages
   pub each : All IsSms answered.parts
   pub time : IsNumber answered.time
 

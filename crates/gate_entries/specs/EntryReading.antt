@@ -8,7 +8,7 @@ use Rattle.sms_record.specs.declared.kind.Kind.{Kind}
 use Rattle.sms_record.specs.declared.kind.Kind.TheVariants.{Delivered, Undelivered, Buffered}
 use Rattle.sms_record.specs.declared.sms.Sms.{Sms}
 use Rattle.sms_record.specs.RecordReading.{sms_at}
-use Rattle.gate_entries.specs.declared.limits.TheConstants.{MOST_MESSAGES, MOST_ARRIVALS, MOST_TEXT}
+use Rattle.gate_entries.specs.Limits.{most_messages, most_arrivals, most_text}
 use Rattle.gate_entries.specs.declared.accept.Accept.{Accept}
 use Rattle.gate_entries.specs.declared.acked.Acked.{Acked}
 use Rattle.gate_entries.specs.declared.cause.Cause.{Cause}
@@ -34,7 +34,7 @@ abbrev pub number_at : Reader ℕ
 number_at = number_of_width_at 8 (from_to 0 (2 ^ 64 - 1))
 
 abbrev pub text_at : Reader (List ℕ)
-text_at = counted_at 2 (from_to 0 MOST_TEXT) Any
+text_at = counted_at 2 (from_to 0 most_text) Any
 
 abbrev pub ids_at : Reader (List ℕ × List ℕ)
 ids_at = both text_at (λ smsc. text_at)
@@ -45,7 +45,7 @@ parts_at = repeated sms_at
 
 -- messages behind their number, which is at least so many
 unfoldable pub messages_at : ℕ → Reader (List Sms)
-messages_at least = made (λ x. x.1) (both (number_of_width_at 2 (from_to least MOST_MESSAGES)) parts_at)
+messages_at least = made (λ x. x.1) (both (number_of_width_at 2 (from_to least most_messages)) parts_at)
 
 -- so many numbers
 abbrev pub numbers_of_count_at : ℕ → Reader (List ℕ)
@@ -53,7 +53,7 @@ numbers_of_count_at = repeated number_at
 
 -- the numbers of arrivals behind how many they are
 unfoldable pub arrivals_at : Reader (List ℕ)
-arrivals_at = made (λ x. x.1) (both (number_of_width_at 2 (from_to 1 MOST_ARRIVALS)) numbers_of_count_at)
+arrivals_at = made (λ x. x.1) (both (number_of_width_at 2 (from_to 1 most_arrivals)) numbers_of_count_at)
 
 -- ---- the kinds
 

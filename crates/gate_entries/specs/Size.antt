@@ -1,7 +1,7 @@
 -- How many octets an entry has.
 use Rattle.std.specs.Prelude.{ℕ, ◌+◌, ◌*◌, ◌-◌, ◌^◌, min, List, []}
 use Rattle.sms_record.specs.declared.sms.Sms.{Sms}
-use Rattle.sms_record.specs.declared.limits.TheConstants.{MOST_TEXT, MOST_HEADER, MOST_BODY, MOST_NAME, MOST_URL}
+use Rattle.sms_record.specs.Limits.{most_address_text, most_header, most_body, most_name, most_url}
 use Rattle.gate_entries.specs.declared.recorded.Recorded.{Recorded}
 use Rattle.gate_entries.specs.declared.recorded.Recorded.TheVariants as entry
 
@@ -22,7 +22,7 @@ parts_of (entry.CallDropped dropped) = []
 
 -- how many octets a record has at most: two addresses, a header, a body, three names and a URL, and 34 besides
 abbrev pub most_record : ℕ
-most_record = 34 + 2 * MOST_TEXT + MOST_HEADER + MOST_BODY + 3 * MOST_NAME + MOST_URL
+most_record = 34 + 2 * most_address_text + most_header + most_body + 3 * most_name + most_url
 
 -- how many octets an entry has at most beside the messages that it hands in: a text and a record, as one that arrived
 abbrev pub most_alone : ℕ

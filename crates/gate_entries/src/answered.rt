@@ -7,7 +7,7 @@ ghost use Rattle.exact_octets.specs.Numbers.{number};
 ghost use Rattle.exact_octets.specs.Reading.{Gives};
 ghost use Rattle.gate_entries.specs.Entry.{IsAnswered, answered_fields, numbers};
 ghost use Rattle.gate_entries.specs.EntryReading.{numbers_of_count_at as numbers_of_count_front, arrivals_at as arrivals_front, answered_at as answered_front};
-ghost use Rattle.gate_entries.specs.declared.limits.TheConstants.{MOST_ARRIVALS};
+ghost use Rattle.gate_entries.specs.Limits.{most_arrivals};
 
 use crate::fields::{number_at, put_number};
 use crate::limits::MOST_ARRIVALS;
@@ -84,7 +84,7 @@ fn put_all(into: &mut Octets, arrivals: &[u64]) -> Result<(), Memory>
 
 /// Puts numbers behind how many they are last.
 fn put_arrivals(into: &mut Octets, arrivals: &[u64]) -> Result<(), Memory>
-    requires { length arrivals.now ≤ MOST_ARRIVALS }
+    requires { length arrivals.now ≤ most_arrivals }
     ensures ok { OnOk result (into.new ≡ into.old ++ numbers arrivals.now) }
     ensures err { OnErr result (Keeps into.old into.new) }
 {

@@ -6,7 +6,7 @@ ghost use Rattle.exact_octets.specs.Growth.{Keeps};
 ghost use Rattle.exact_octets.specs.Reading.{Gives};
 ghost use Rattle.gate_entries.specs.Entry.{messages};
 ghost use Rattle.gate_entries.specs.EntryReading.{parts_at as parts_front, messages_at as messages_front};
-ghost use Rattle.gate_entries.specs.declared.limits.TheConstants.{MOST_MESSAGES};
+ghost use Rattle.gate_entries.specs.Limits.{most_messages};
 ghost use Rattle.sms_record.specs.Record.{IsSms, sms_octets};
 
 use crate::limits::MOST_MESSAGES;
@@ -56,7 +56,7 @@ fn put_parts(into: &mut Octets, parts: &[Sms]) -> Result<(), Memory>
 
 /// Puts messages behind their number last.
 pub(crate) fn put_messages(into: &mut Octets, parts: &[Sms]) -> Result<(), Memory>
-    requires few { length parts.now ≤ MOST_MESSAGES }
+    requires few { length parts.now ≤ most_messages }
     requires each { All IsSms parts.now }
     ensures ok { OnOk result (into.new ≡ into.old ++ messages parts.now) }
     ensures err { OnErr result (Keeps into.old into.new) }

@@ -5,7 +5,7 @@ use Rattle.std.specs.List.{range_with_len}
 use Rattle.std.proofs.lemmas.List.{append-nil, length-replicate}
 use Rattle.sms_record.specs.declared.sms.Sms.{Sms}
 use Rattle.route_rules.specs.declared.rules.Rules.{Rules}
-use Rattle.gate_entries.specs.declared.limits.TheConstants.{MOST_MESSAGES}
+use Rattle.gate_entries.specs.Limits.{most_messages}
 use Rattle.gate_model.specs.declared.gate.Gate.{Gate}
 use Rattle.gate_model.specs.declared.waiting.Waiting.{Waiting}
 use Rattle.gate_model.specs.Numbers.{Rise, value_under}
@@ -147,7 +147,7 @@ module _ (rules : Rules) (flight : List ℕ) (state : State) (whole : IsWhole ru
     bounded = bounded_like (answers arrivals state) refl refl refl refl refl refl refl refl refl refl refl;
   }
 
-  pub whole-accepts : (parts : List Sms) → state.entries < most_entries → length parts ≤ MOST_MESSAGES → IsWhole rules flight (counts_entry (accepts parts state))
+  pub whole-accepts : (parts : List Sms) → state.entries < most_entries → length parts ≤ most_messages → IsWhole rules flight (counts_entry (accepts parts state))
   whole-accepts parts few short =
       let order = IsInOrder-accepts parts state whole.order in
       let b = whole.bounded in record {

@@ -9,7 +9,7 @@ use Rattle.gate_entries.specs.declared.recorded.Recorded.{Recorded}
 use Rattle.gate_entries.specs.declared.recorded.Recorded.TheVariants as entry
 use Rattle.gate_entries.specs.Entry.{IsText}
 use Rattle.gate_entries.specs.declared.acked.Acked.{Acked}
-use Rattle.gate_entries.specs.declared.limits.TheConstants.{MOST_MESSAGES}
+use Rattle.gate_entries.specs.Limits.{most_messages}
 use Rattle.gate_model.specs.declared.gate.Gate.{Gate}
 use Rattle.gate_model.specs.declared.ready.Ready.{Ready}
 use Rattle.gate_model.specs.declared.waiting.Waiting.{Waiting}
@@ -46,8 +46,8 @@ rules_of gate = gate.rules
 -- Counts and numbers are bounded by the entries, and these by the most that are ever recorded.
 pub record IsBounded (state : State) : Type 0 where
   pub entries : state.entries ≤ most_entries
-  pub accepted : state.accepted ≤ MOST_MESSAGES * state.entries
-  pub last_message : state.last_message ≤ MOST_MESSAGES * state.entries
+  pub accepted : state.accepted ≤ most_messages * state.entries
+  pub last_message : state.last_message ≤ most_messages * state.entries
   pub acked : state.acked ≤ state.entries
   pub rejected : state.rejected ≤ state.entries
   pub unmatched : state.unmatched ≤ state.entries

@@ -1,5 +1,5 @@
 -- Counts that don't fall.
-use Rattle.std.proofs.Common.{◌≡◌, ◌≤◌, ap, sym, subst, arith}
+use Rattle.std.proofs.Common.{◌≡◌, ap, sym, subst, arith}
 use Rattle.kn_base.specs.Count.{Counts, NoneFell, CountsFailure}
 
 pub fell_same : (a b : Counts) → b ≡ a → NoneFell a b

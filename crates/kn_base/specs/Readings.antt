@@ -1,12 +1,15 @@
 -- The readings of a clock whose answers stand beforehand.
 use Rattle.std.specs.Prelude.{ℕ, zero, suc, ◌+◌, ◌-◌, min, max, List, [], ◌∷◌, ◌++◌, take, Option, Some, None, nat_lt, if◌then◌else◌}
 use Rattle.kn_base.specs.Count.{last_count}
-use Rattle.kn_base.specs.declared.clock.TheConstants.{CLOCK_END}
+
+-- behind the last second of a clock: 2^37 seconds from 1970 on, the year 6325
+abbrev pub clock_end : ℕ
+clock_end = 137438953472
 
 -- the greatest of some answers, each of them counted for no more than the last second of a clock; 0 where there are none
 abbrev pub greatest : List ℕ → ℕ
 greatest [] = 0
-greatest (answer ∷ answers) = max (min answer (CLOCK_END - 1)) (greatest answers)
+greatest (answer ∷ answers) = max (min answer (clock_end - 1)) (greatest answers)
 
 -- what the call of that number reads, from 0: the greatest of the answers up to its own
 abbrev pub reading_at : List ℕ → ℕ → ℕ

@@ -35,7 +35,7 @@ mod source;
 mod writing;
 
 pub use charset::Charset;
-pub use clock::Clock;
+pub use clock::{CLOCK_END, Clock};
 pub use count::raised;
 pub use decimal::{read_decimal, write_decimal};
 pub use hexadecimal::{HexFault, read_hex, write_hex};

@@ -6,7 +6,7 @@ use Rattle.std.proofs.lemmas.List.Elements.{All-nil, All-cons}
 use Rattle.sms_record.specs.declared.address.Address.{Address}
 use Rattle.sms_record.specs.declared.coding.Coding.{Coding}
 use Rattle.sms_record.specs.declared.coding.Coding.TheVariants.{Seven, Eight, Ucs2}
-use Rattle.sms_record.specs.declared.limits.TheConstants.{MOST_BODY, MOST_DIGITS, MOST_TEXT, MOST_HEADER}
+use Rattle.sms_record.specs.Limits.{most_body, most_digits, most_address_text, most_header}
 use Rattle.sms_record.specs.Header.{IsHeaderOrNone}
 use Rattle.sms_record.specs.Record.{IsAddress, IsOfCoding}
 use Rattle.config_values.specs.Values.{is_digits, behind_plus}
@@ -16,11 +16,11 @@ use Rattle.link_core.specs.Heard.{IsArrival}
 
 pub address_kept : (international : Bool) (text : List ℕ) → IsAddress (address_of international text)
 address_kept international text =
-    elim (cases_Bool (is_digits MOST_DIGITS (behind_plus text))) [
+    elim (cases_Bool (is_digits most_digits (behind_plus text))) [
       | inl is ↦
-          let form = digits MOST_DIGITS (behind_plus text) is in
+          let form = digits most_digits (behind_plus text) is in
           rw is (form.0.0, form.0.1, form.1)
-      | inr other ↦ rw other (omega (arith, length-take MOST_TEXT text))
+      | inr other ↦ rw other (omega (arith, length-take most_address_text text))
     ]
 
 small : (xs : List ℕ) → All (λ octet. octet < 128) (map (λ octet. octet % 128) xs)
@@ -28,22 +28,22 @@ small [] = All-nil (λ octet. octet < 128)
 small (x ∷ xs) = All-cons (λ octet. octet < 128) (x % 128) (map (λ octet. octet % 128) xs) (omega arith) (small xs)
 
 pub body_coded : (coding : Coding) (octets : List ℕ) → IsOfCoding coding (body_of coding octets)
-body_coded Seven octets = small (take MOST_BODY octets)
+body_coded Seven octets = small (take most_body octets)
 body_coded Eight octets = tt
 body_coded Ucs2 octets =
-    let kept = take MOST_BODY octets in
+    let kept = take most_body octets in
     let len : length (take (length kept - length kept % 2) kept) ≡ length kept - length kept % 2 = length-take-le (length kept - length kept % 2) kept (omega arith) in
     omega (arith, len)
 
-pub body_kept : (coding : Coding) (octets : List ℕ) → length (body_of coding octets) ≤ MOST_BODY
-body_kept Seven octets = omega (arith, length-map (take MOST_BODY octets) (λ (octet : ℕ). octet % 128), length-take MOST_BODY octets)
-body_kept Eight octets = omega (arith, length-take MOST_BODY octets)
+pub body_kept : (coding : Coding) (octets : List ℕ) → length (body_of coding octets) ≤ most_body
+body_kept Seven octets = omega (arith, length-map (take most_body octets) (λ (octet : ℕ). octet % 128), length-take most_body octets)
+body_kept Eight octets = omega (arith, length-take most_body octets)
 body_kept Ucs2 octets =
-    let kept = take MOST_BODY octets in
-    omega (arith, length-take MOST_BODY octets, length-take (length kept - length kept % 2) kept)
+    let kept = take most_body octets in
+    omega (arith, length-take most_body octets, length-take (length kept - length kept % 2) kept)
 
 -- what is made of good parts arrives
-pub arrives : (sender receiver : Address) (coding : Coding) (class : Option ℕ) (udh body : List ℕ) → IsAddress sender → IsAddress receiver → IfSome class (λ class. class ≤ 3) → length udh ≤ MOST_HEADER → IsHeaderOrNone udh → length body ≤ MOST_BODY → IsOfCoding coding body → IsArrival (arrival_of sender receiver coding class udh body)
+pub arrives : (sender receiver : Address) (coding : Coding) (class : Option ℕ) (udh body : List ℕ) → IsAddress sender → IsAddress receiver → IfSome class (λ class. class ≤ 3) → length udh ≤ most_header → IsHeaderOrNone udh → length body ≤ most_body → IsOfCoding coding body → IsArrival (arrival_of sender receiver coding class udh body)
 arrives sender receiver coding class udh body from to classed udh_len formed len coded = record {
   bare = refl;
   recorded = λ time smsc early short. record {

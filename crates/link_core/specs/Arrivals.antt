@@ -6,7 +6,7 @@ use Rattle.sms_record.specs.declared.address.Address.{Address}
 use Rattle.sms_record.specs.declared.address.Address.TheVariants.{Number, Text}
 use Rattle.sms_record.specs.declared.coding.Coding.{Coding}
 use Rattle.sms_record.specs.declared.coding.Coding.TheVariants.{Seven, Eight, Ucs2}
-use Rattle.sms_record.specs.declared.limits.TheConstants.{MOST_BODY, MOST_DIGITS, MOST_TEXT}
+use Rattle.sms_record.specs.Limits.{most_body, most_digits, most_address_text}
 use Rattle.sms_record.specs.declared.sms.Sms.{Sms}
 use Rattle.config_values.specs.Values.{is_digits, has_plus, behind_plus}
 
@@ -41,10 +41,10 @@ arrival_of sender receiver coding class udh body = record {
 -- an address: a number is an optional + and 1 to 15 decimal digits, and has a + where its frame says that it is international; all else is a text
 abbrev pub address_of : (international : Bool) → List ℕ → Address
 address_of international text =
-    if is_digits MOST_DIGITS (behind_plus text) then Number (international || has_plus text) (behind_plus text) else Text (take MOST_TEXT text)
+    if is_digits most_digits (behind_plus text) then Number (international || has_plus text) (behind_plus text) else Text (take most_address_text text)
 
 -- a body of a coding: septets lose their top bits, units of two octets an octet that is left over, and all what passes the most octets of a body
 abbrev pub body_of : Coding → List ℕ → List ℕ
-body_of Seven octets = map (λ octet. octet % 128) (take MOST_BODY octets)
-body_of Eight octets = take MOST_BODY octets
-body_of Ucs2 octets = let kept = take MOST_BODY octets in take (length kept - length kept % 2) kept
+body_of Seven octets = map (λ octet. octet % 128) (take most_body octets)
+body_of Eight octets = take most_body octets
+body_of Ucs2 octets = let kept = take most_body octets in take (length kept - length kept % 2) kept

@@ -2,7 +2,7 @@
 use Rattle.std.specs.Prelude.{◌≡◌, ℕ, ◌≤◌, ◌<◌, ◌^◌, ⊤, List, length}
 use Rattle.sms_record.specs.declared.kind.Kind.{Kind}
 use Rattle.sms_record.specs.declared.kind.Kind.TheVariants as kind
-use Rattle.sms_record.specs.declared.limits.TheConstants.{MOST_BODY, MOST_NAME}
+use Rattle.sms_record.specs.Limits.{most_body, most_name}
 use Rattle.sms_record.specs.declared.sms.Sms.{Sms}
 use Rattle.sms_record.specs.Record.{IsSms}
 use Rattle.link_core.specs.declared.verdict.Verdict.{Verdict}
@@ -26,7 +26,7 @@ heard_tag (heard.Strange tag id) = tag
 
 -- ids of a centre and the words of a report, which the store keeps
 abbrev pub IsShort : List ℕ → Type 0
-IsShort octets = length octets ≤ MOST_BODY
+IsShort octets = length octets ≤ most_body
 
 abbrev pub IsSoundVerdict : Verdict → Type 0
 IsSoundVerdict (Good foreign) = IsShort foreign
@@ -44,7 +44,7 @@ IsReported kind.Refused = ⊥
 -- a message that was heard: nothing that a frame doesn't say is known of it, and with a time and an SMSC id it has a record
 pub record IsArrival (sms : Sms) : Type 0 where
   pub bare : sms ≡ arrival_of sms.sender sms.receiver sms.coding sms.class sms.udh sms.body
-  pub recorded : (time : ℕ) (smsc : List ℕ) → time < 2 ^ 37 → length smsc ≤ MOST_NAME → IsSms (record sms { smsc = smsc; time = time })
+  pub recorded : (time : ℕ) (smsc : List ℕ) → time < 2 ^ 37 → length smsc ≤ most_name → IsSms (record sms { smsc = smsc; time = time })
 
 abbrev pub IsSound : Heard → Type 0
 IsSound (heard.Login tag code) = ⊤

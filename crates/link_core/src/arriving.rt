@@ -3,7 +3,7 @@
 ghost use Rattle.std.specs.Prelude.{◌≡◌, ◌%◌, map, take, IfOk};
 ghost use Rattle.std.specs.Char.{is_ascii_digit};
 ghost use Rattle.std.specs.List.{list_all};
-ghost use Rattle.sms_record.specs.declared.limits.TheConstants.{MOST_DIGITS as DIGITS};
+ghost use Rattle.sms_record.specs.Limits.{most_digits as DIGITS};
 ghost use Rattle.config_values.specs.Values as values;
 ghost use Rattle.link_core.specs.Arrivals as spec;
 

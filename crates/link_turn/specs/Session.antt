@@ -12,7 +12,7 @@ use Rattle.link_core.specs.Tags.{nth_tag}
 use Rattle.link_core.specs.declared.heard.Heard.{Heard}
 use Rattle.link_core.specs.declared.out.Out.{Out}
 use Rattle.route_rules.specs.declared.link_kind.LinkKind.{LinkKind}
-use Rattle.sms_record.specs.declared.limits.TheConstants.{MOST_NAME}
+use Rattle.sms_record.specs.Limits.{most_name}
 use Rattle.link_turn.specs.Steps.{Step, Deed, performed, passed, took, said_in, deeds_in, times_of_entry}
 use Rattle.link_turn.specs.Back.{open_login, in_use, is_up, last_said, found_none, IsAmong}
 use Rattle.link_turn.specs.declared.end_cause.EndCause.{EndCause}
@@ -105,7 +105,7 @@ module _ {C : Type 0} where
     pub few : length session.in_use.items ≤ session.terms.window
     pub enough : session.terms.window + 2 ≤ tags
     pub tag : IsTag next_tag session.last_tag
-    pub smsc : length session.terms.smsc ≤ MOST_NAME
+    pub smsc : length session.terms.smsc ≤ most_name
     pub in_time : session.latest < 2 ^ 37
 
   -- the same, and what holds in its phase

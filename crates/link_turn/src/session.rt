@@ -1,7 +1,7 @@
 //! The session of one link by itself, without its peer and without the store.
 
 ghost use Rattle.std.specs.Prelude.{◌≡◌, ◌↔◌, ◌≤◌, ◌+◌, ℕ, List, IsTrue, IfOk, length};
-ghost use Rattle.sms_record.specs.declared.limits.TheConstants.{MOST_NAME};
+ghost use Rattle.sms_record.specs.Limits.{most_name};
 ghost use Rattle.link_turn.specs.Session as spec;
 ghost use Rattle.link_turn.specs.Weight as weight;
 ghost use Rattle.link_turn.specs.SessionSteps as steps;
@@ -129,7 +129,7 @@ impl<C: LinkCore> Session<C> {
         keepalive: u32,
     ) -> Result<Session<C>, Memory>
         requires tags { window + 2 ≤ C.tags }
-        requires smsc { length smsc ≤ MOST_NAME }
+        requires smsc { length smsc ≤ most_name }
         ensures new { IfOk result (spec.IsNew core (record { link = link; smsc = smsc; window = window; wait_ack = wait_ack; keepalive = keepalive })) }
         ensures session { IfOk result (spec.IsSession C.tags C.next_tag C.holds) }
     {

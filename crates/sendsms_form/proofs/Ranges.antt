@@ -16,7 +16,7 @@ use Rattle.gsm_alphabet.proofs.AlphabetLemmas.{septets_of-small}
 use Rattle.sms_record.specs.declared.address.Address.{Address}
 use Rattle.sms_record.specs.declared.coding.Coding.{Coding}
 use Rattle.sms_record.specs.declared.coding.Coding.TheVariants.{Seven, Eight, Ucs2}
-use Rattle.sms_record.specs.declared.limits.TheConstants.{MOST_DIGITS}
+use Rattle.sms_record.specs.Limits.{most_digits}
 use Rattle.sms_record.specs.Header.{Element, element, elements, header, IsHeaderOrNone}
 use Rattle.sms_record.specs.Record.{IsOfCoding}
 use Rattle.config_groups.specs.declared.settings.user.User.{User}
@@ -49,7 +49,7 @@ there o x P tells is = subst (λ p. IfSome p P) is tells
 
 receiver : (word : List ℕ) → is_number word ≡ true → IsReceiver (number word)
 receiver word is =
-    let form = forms.digits MOST_DIGITS (behind_plus word) is in
+    let form = forms.digits most_digits (behind_plus word) is in
     (form.0.0, form.0.1, form.1)
 
 each_receiver : (all : List (List ℕ)) → list_all is_number all ≡ true → All IsReceiver (map number all)

@@ -13,7 +13,7 @@ use Rattle.sms_record.specs.declared.address.Address.{Address}
 use Rattle.sms_record.specs.declared.address.Address.TheVariants.{Number}
 use Rattle.sms_record.specs.declared.coding.Coding.{Coding}
 use Rattle.sms_record.specs.declared.coding.Coding.TheVariants.{Seven, Eight, Ucs2}
-use Rattle.sms_record.specs.declared.limits.TheConstants.{MOST_DIGITS}
+use Rattle.sms_record.specs.Limits.{most_digits}
 use Rattle.config_values.specs.Values.{is_within, is_digits, is_number_within, number_of, is_filled, has_plus, behind_plus, sender_of}
 
 -- ---- to: 1 to 50 numbers with spaces between them
@@ -27,7 +27,7 @@ words value = filter is_filled (slice_split is_space value)
 
 -- a number is an optional + and 1 to 15 digits
 abbrev pub is_number : List ℕ → Bool
-is_number word = is_digits MOST_DIGITS (behind_plus word)
+is_number word = is_digits most_digits (behind_plus word)
 
 abbrev pub number : List ℕ → Address
 number word = Number (has_plus word) (behind_plus word)

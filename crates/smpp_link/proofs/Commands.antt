@@ -3,9 +3,9 @@ use Rattle.std.proofs.Common.{◌≡◌, ℕ, ◌/◌, ◌%◌, ◌<◌, ◌≤�
 use Rattle.std.specs.Prelude.{nat_lt, ◌==◌, ◌||◌, bytes_eq, codes}
 use Rattle.std.proofs.lemmas.List.{length-take}
 use Rattle.std.proofs.lemmas.Bool.{cases_Bool, eqb-true}
-use Rattle.sms_record.specs.declared.limits.TheConstants.{MOST_BODY, MOST_HEADER}
+use Rattle.sms_record.specs.Limits.{most_body, most_header}
 use Rattle.sms_record.specs.Header.{IsHeaderOrNone}
-use Rattle.smpp_wire.specs.declared.command.TheConstants.{GENERIC_NACK, SUBMIT_SM_RESP, DELIVER_SM, DELIVER_SM_RESP, UNBIND, UNBIND_RESP, BIND_TRANSCEIVER_RESP, ENQUIRE_LINK, ENQUIRE_LINK_RESP}
+use Rattle.smpp_wire.specs.Ids.{generic_nack, submit_sm_resp, deliver_sm, deliver_sm_resp, unbind, unbind_resp, bind_transceiver_resp, enquire_link, enquire_link_resp}
 use Rattle.smpp_wire.specs.Command.{MessageFields, Fields, Bind, BindReply, Message, SubmitReply, DeliverReply, Nothing, Any, Command}
 use Rattle.smpp_wire.specs.Grammar.{IsOf, frame, frame_length, row_of}
 use Rattle.smpp_wire.proofs.Streams.{one_frame}
@@ -18,7 +18,7 @@ use Rattle.link_core.proofs.Arrivals.{address_kept, body_coded, body_kept, arriv
 use Rattle.smpp_link.specs.Delivery.{is_report, says_header, header_and_text, coding_of, text_of, is_international, sms_of, delivered}
 use Rattle.smpp_link.specs.Hearing.{is_temporary, verdict_of, foreign_in, told, heard_of, Hears}
 use Rattle.smpp_link.specs.Receipts.{value_in, word_behind, id_of, kind_of_number, kind_of_state, kind_of_word, kind_of, reported}
-use Rattle.smpp_link.specs.declared.receipt.TheConstants.{RECEIPTED_MESSAGE_ID, MESSAGE_STATE, MOST_ID}
+use Rattle.smpp_link.specs.TlvTags.{receipted_message_id, message_state, most_id}
 use Rattle.smpp_link.proofs.Headers.{header_good}
 
 -- what is true of both is true of the one that is chosen
@@ -33,9 +33,9 @@ Has tag heard = heard_tag heard ≡ tag
 
 told_tag : (id tag status : ℕ) → Has tag (told id tag status)
 told_tag id tag status =
-    chosen (Has tag) (id == BIND_TRANSCEIVER_RESP) _ _ refl (chosen (Has tag) (id == UNBIND) _ _ refl (chosen (Has tag) (id == UNBIND_RESP) _ _ refl
-    (chosen (Has tag) (id == ENQUIRE_LINK) _ _ refl (chosen (Has tag) (id == ENQUIRE_LINK_RESP || id == DELIVER_SM_RESP) _ _ refl
-    (chosen (Has tag) (id == GENERIC_NACK) _ _ refl refl)))))
+    chosen (Has tag) (id == bind_transceiver_resp) _ _ refl (chosen (Has tag) (id == unbind) _ _ refl (chosen (Has tag) (id == unbind_resp) _ _ refl
+    (chosen (Has tag) (id == enquire_link) _ _ refl (chosen (Has tag) (id == enquire_link_resp || id == deliver_sm_resp) _ _ refl
+    (chosen (Has tag) (id == generic_nack) _ _ refl refl)))))
 
 delivered_tag : (tag : ℕ) (fields : Fields) → Has tag (delivered tag fields)
 delivered_tag tag (Message m) = chosen (Has tag) (is_report m.esm_class) _ _ refl refl
@@ -48,18 +48,18 @@ delivered_tag tag (Any octets) = refl
 
 pub tag_of : (c : Command) → heard_tag (heard_of c) ≡ c.sequence
 tag_of c =
-    chosen (Has c.sequence) (c.id == SUBMIT_SM_RESP) _ _ refl
-    (chosen (Has c.sequence) (c.id == DELIVER_SM) _ _ (delivered_tag c.sequence c.fields) (told_tag c.id c.sequence c.status))
+    chosen (Has c.sequence) (c.id == submit_sm_resp) _ _ refl
+    (chosen (Has c.sequence) (c.id == deliver_sm) _ _ (delivered_tag c.sequence c.fields) (told_tag c.id c.sequence c.status))
 
 -- ---- what is heard is sound
 
 told_sound : (id tag status : ℕ) → IsSound (told id tag status)
 told_sound id tag status =
-    chosen IsSound (id == BIND_TRANSCEIVER_RESP) _ _ tt (chosen IsSound (id == UNBIND) _ _ tt (chosen IsSound (id == UNBIND_RESP) _ _ tt
-    (chosen IsSound (id == ENQUIRE_LINK) _ _ tt (chosen IsSound (id == ENQUIRE_LINK_RESP || id == DELIVER_SM_RESP) _ _ tt
-    (chosen IsSound (id == GENERIC_NACK) _ _ tt tt)))))
+    chosen IsSound (id == bind_transceiver_resp) _ _ tt (chosen IsSound (id == unbind) _ _ tt (chosen IsSound (id == unbind_resp) _ _ tt
+    (chosen IsSound (id == enquire_link) _ _ tt (chosen IsSound (id == enquire_link_resp || id == deliver_sm_resp) _ _ tt
+    (chosen IsSound (id == generic_nack) _ _ tt tt)))))
 
-foreign_short : (fields : Fields) → IsOf (row_of SUBMIT_SM_RESP) fields → length (foreign_in fields) ≤ MOST_BODY
+foreign_short : (fields : Fields) → IsOf (row_of submit_sm_resp) fields → length (foreign_in fields) ≤ most_body
 foreign_short (SubmitReply message_id) is = omega (arith, is.1)
 foreign_short (Bind b) is = omega arith
 foreign_short (BindReply system_id tlvs) is = omega arith
@@ -68,7 +68,7 @@ foreign_short DeliverReply is = omega arith
 foreign_short Nothing is = omega arith
 foreign_short (Any octets) is = omega arith
 
-verdict_sound : (status : ℕ) (foreign : List ℕ) → length foreign ≤ MOST_BODY → IsSoundVerdict (verdict_of status foreign)
+verdict_sound : (status : ℕ) (foreign : List ℕ) → length foreign ≤ most_body → IsSoundVerdict (verdict_of status foreign)
 verdict_sound status foreign short =
     chosen IsSoundVerdict (status == 0) _ _ short (chosen IsSoundVerdict (is_temporary status) _ _ tt tt)
 
@@ -79,7 +79,7 @@ classed dcs =
     (chosen (λ class. IfSome class (λ class. class ≤ 3)) (nat_lt dcs 240) _ _ tt small)
 
 abbrev IsParted : List ℕ × List ℕ → Type 0
-IsParted parts = (length parts.0 ≤ MOST_HEADER) × IsHeaderOrNone parts.0
+IsParted parts = (length parts.0 ≤ most_header) × IsHeaderOrNone parts.0
 
 parted : (esm_class : ℕ) (octets : List ℕ) → IsParted (header_and_text esm_class octets)
 parted esm_class octets = chosen IsParted (says_header esm_class) _ _ (header_good octets) (omega arith, inl refl)
@@ -113,12 +113,12 @@ kind_reported None None = tt
 
 report_sound : (tag : ℕ) (text tlvs : List ℕ) → length text ≤ 254 → IsSound (reported tag text tlvs)
 report_sound tag text tlvs short = (
-  omega (arith, length-take MOST_ID (id_of (value_in RECEIPTED_MESSAGE_ID tlvs) (word_behind (codes "id:") text))),
-  kind_reported (value_in MESSAGE_STATE tlvs) (word_behind (codes "stat:") text),
+  omega (arith, length-take most_id (id_of (value_in receipted_message_id tlvs) (word_behind (codes "id:") text))),
+  kind_reported (value_in message_state tlvs) (word_behind (codes "stat:") text),
   omega (arith, short),
 )
 
-delivered_sound : (tag : ℕ) (fields : Fields) → IsOf (row_of DELIVER_SM) fields → IsSound (delivered tag fields)
+delivered_sound : (tag : ℕ) (fields : Fields) → IsOf (row_of deliver_sm) fields → IsSound (delivered tag fields)
 delivered_sound tag (Message m) is =
     chosen IsSound (is_report m.esm_class) _ _ (report_sound tag m.short_message m.tlvs is.short_message) (message_arrives m)
 delivered_sound tag (Bind b) is = tt
@@ -130,15 +130,15 @@ delivered_sound tag (Any octets) is = tt
 
 sound_of : (c : Command) → IsOf (row_of c.id) c.fields → IsSound (heard_of c)
 sound_of c is =
-    elim (cases_Bool (c.id == SUBMIT_SM_RESP)) [
+    elim (cases_Bool (c.id == submit_sm_resp)) [
       | inl reply ↦
-          let id : c.id ≡ SUBMIT_SM_RESP = eqb-true c.id SUBMIT_SM_RESP reply in
+          let id : c.id ≡ submit_sm_resp = eqb-true c.id submit_sm_resp reply in
           let short = foreign_short c.fields (subst (λ (n : ℕ). IsOf (row_of n) c.fields) id is) in
           rw reply (verdict_sound c.status (foreign_in c.fields) short)
       | inr other ↦
-          rw other (elim (cases_Bool (c.id == DELIVER_SM)) [
+          rw other (elim (cases_Bool (c.id == deliver_sm)) [
             | inl delivery ↦
-                let id : c.id ≡ DELIVER_SM = eqb-true c.id DELIVER_SM delivery in
+                let id : c.id ≡ deliver_sm = eqb-true c.id deliver_sm delivery in
                 rw delivery (delivered_sound c.sequence c.fields (subst (λ (n : ℕ). IsOf (row_of n) c.fields) id is))
             | inr none ↦ rw none (told_sound c.id c.sequence c.status)
           ])

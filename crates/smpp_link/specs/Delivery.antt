@@ -4,12 +4,12 @@ use Rattle.std.specs.List.{flat_map}
 use Rattle.exact_octets.specs.declared.read_fault.ReadFault.{ReadFault}
 use Rattle.sms_record.specs.declared.coding.Coding.{Coding}
 use Rattle.sms_record.specs.declared.coding.Coding.TheVariants.{Eight}
-use Rattle.sms_record.specs.declared.limits.TheConstants.{MOST_HEADER}
+use Rattle.sms_record.specs.Limits.{most_header}
 use Rattle.sms_record.specs.declared.sms.Sms.{Sms}
 use Rattle.sms_record.specs.Header.{Element, header}
 use Rattle.sms_record.specs.HeaderReading.{header_at}
 use Rattle.gsm_alphabet.specs.Alphabet.{septets_of}
-use Rattle.smpp_wire.specs.declared.command.TheConstants.{DELIVER_SM}
+use Rattle.smpp_wire.specs.Ids.{deliver_sm}
 use Rattle.smpp_wire.specs.Command.{MessageFields, Fields, Message}
 use Rattle.link_core.specs.declared.heard.Heard.{Heard}
 use Rattle.link_core.specs.declared.heard.Heard.TheVariants as heard
@@ -31,7 +31,7 @@ says_header esm_class = esm_class / 64 % 2 == 1
 
 -- a header that was read, of at most 140 octets, and what stands behind it; else nothing, and all the octets
 abbrev pub parted : List ℕ → Result (List Element × List ℕ) ReadFault → List ℕ × List ℕ
-parted octets (Ok x) = if nat_le (length (header x.0)) MOST_HEADER then (header x.0, x.1) else ([], octets)
+parted octets (Ok x) = if nat_le (length (header x.0)) most_header then (header x.0, x.1) else ([], octets)
 parted octets (Err fault) = ([], octets)
 
 -- the header at the front (GSM 03.40 9.2.3.24) and what stands behind it, where one does that a message may have; else nothing, and all the octets
@@ -71,4 +71,4 @@ sms_of m = sms_with m (header_and_text m.esm_class m.short_message)
 -- a report of the centre, or a message
 abbrev pub delivered : (tag : ℕ) → Fields → Heard
 delivered tag (Message m) = if is_report m.esm_class then reported tag m.short_message m.tlvs else heard.Message tag (sms_of m)
-delivered tag fields = heard.Strange tag DELIVER_SM
+delivered tag fields = heard.Strange tag deliver_sm

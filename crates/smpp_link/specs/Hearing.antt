@@ -2,7 +2,7 @@
 use Rattle.std.specs.Prelude.{◌≡◌, ℕ, Bool, ◌==◌, ◌||◌, List, [], if◌then◌else◌}
 use Rattle.exact_octets.specs.Fronts.{BreaksOffAt}
 use Rattle.smpp_wire.specs.declared.frame.Frame.TheVariants as answer
-use Rattle.smpp_wire.specs.declared.command.TheConstants.{GENERIC_NACK, SUBMIT_SM_RESP, DELIVER_SM, DELIVER_SM_RESP, UNBIND, UNBIND_RESP, BIND_TRANSCEIVER_RESP, ENQUIRE_LINK, ENQUIRE_LINK_RESP}
+use Rattle.smpp_wire.specs.Ids.{generic_nack, submit_sm_resp, deliver_sm, deliver_sm_resp, unbind, unbind_resp, bind_transceiver_resp, enquire_link, enquire_link_resp}
 use Rattle.smpp_wire.specs.Command.{Fields, SubmitReply, Command}
 use Rattle.smpp_wire.specs.Grammar.{IsCommand, frame, IsFrame}
 use Rattle.smpp_wire.specs.Answers.{refused}
@@ -37,18 +37,18 @@ replied tag status fields = heard.Reply tag (verdict_of status (foreign_in field
 -- what is heard of a command by its header alone
 abbrev pub told : (id tag status : ℕ) → Heard
 told id tag status =
-    if id == BIND_TRANSCEIVER_RESP then heard.Login tag status else
-    if id == UNBIND then heard.Bye tag else
-    if id == UNBIND_RESP then heard.ByeReply tag else
-    if id == ENQUIRE_LINK then heard.Keep tag else
-    if id == ENQUIRE_LINK_RESP || id == DELIVER_SM_RESP then heard.KeepReply tag else
-    if id == GENERIC_NACK then heard.Nack tag status else
+    if id == bind_transceiver_resp then heard.Login tag status else
+    if id == unbind then heard.Bye tag else
+    if id == unbind_resp then heard.ByeReply tag else
+    if id == enquire_link then heard.Keep tag else
+    if id == enquire_link_resp || id == deliver_sm_resp then heard.KeepReply tag else
+    if id == generic_nack then heard.Nack tag status else
     heard.Strange tag id
 
 abbrev pub heard_of : Command → Heard
 heard_of c =
-    if c.id == SUBMIT_SM_RESP then replied c.sequence c.status c.fields else
-    if c.id == DELIVER_SM then delivered c.sequence c.fields else
+    if c.id == submit_sm_resp then replied c.sequence c.status c.fields else
+    if c.id == deliver_sm then delivered c.sequence c.fields else
     told c.id c.sequence c.status
 
 -- octets are the frame of a command, which is heard so

@@ -3,3 +3,4 @@ pub mod Hearing
 pub mod Receipts
 pub mod Saying
 pub mod Tags
+pub mod TlvTags

@@ -10,7 +10,7 @@ use Rattle.smpp_wire.specs.Reading.{tlv_at}
 use Rattle.smpp_wire.specs.Tlvs.{first_value}
 use Rattle.link_core.specs.declared.heard.Heard.{Heard}
 use Rattle.link_core.specs.declared.heard.Heard.TheVariants as heard
-use Rattle.smpp_link.specs.declared.receipt.TheConstants.{RECEIPTED_MESSAGE_ID, MESSAGE_STATE, MOST_ID}
+use Rattle.smpp_link.specs.TlvTags.{receipted_message_id, message_state, most_id}
 
 -- ---- optional parameters (3.2.4.1)
 
@@ -72,5 +72,5 @@ kind_of None None = Buffered
 
 abbrev pub reported : (tag : ℕ) → (text tlvs : List ℕ) → Heard
 reported tag text tlvs =
-    heard.Report tag (take MOST_ID (id_of (value_in RECEIPTED_MESSAGE_ID tlvs) (word_behind (codes "id:") text)))
-    (kind_of (value_in MESSAGE_STATE tlvs) (word_behind (codes "stat:") text)) text
+    heard.Report tag (take most_id (id_of (value_in receipted_message_id tlvs) (word_behind (codes "id:") text)))
+    (kind_of (value_in message_state tlvs) (word_behind (codes "stat:") text)) text

@@ -4,8 +4,8 @@ use Rattle.sms_record.specs.declared.address.Address.{Address}
 use Rattle.sms_record.specs.declared.address.Address.TheVariants.{Number, Text}
 use Rattle.sms_record.specs.declared.sms.Sms.{Sms}
 use Rattle.sms_record.specs.Record.{address_text}
-use Rattle.smpp_wire.specs.declared.command.TheConstants.{GENERIC_NACK, SUBMIT_SM, DELIVER_SM_RESP, UNBIND_RESP, BIND_TRANSCEIVER, ENQUIRE_LINK, ENQUIRE_LINK_RESP}
-use Rattle.smpp_wire.specs.declared.limits.TheConstants.{INTERFACE_VERSION}
+use Rattle.smpp_wire.specs.Ids.{generic_nack, submit_sm, deliver_sm_resp, unbind_resp, bind_transceiver, enquire_link, enquire_link_resp}
+use Rattle.smpp_wire.specs.Limits.{version_3_4}
 use Rattle.smpp_wire.specs.Command.{BindFields, MessageFields, Fields, Bind, Message, DeliverReply, Nothing, Command}
 use Rattle.smpp_wire.specs.Grammar.{frame}
 use Rattle.config_groups.specs.declared.settings.link_settings.LinkSettings.{LinkSettings}
@@ -27,7 +27,7 @@ bind_with system_id password system_type = record {
   system_id = system_id;
   password = password;
   system_type = system_type;
-  interface_version = INTERFACE_VERSION;
+  interface_version = version_3_4;
   addr_ton = 0;
   addr_npi = 0;
   address_range = [];
@@ -108,15 +108,15 @@ command_with id status tag fields = record { id = id; status = status; sequence 
 
 -- by what a login says; statuses (5.1.3): ESME_ROK, ESME_RMSGQFUL for a message without room, ESME_RINVCMDID for what is strange
 abbrev pub command_of : (login : Fields) → Out → Command
-command_of login (out.Login tag) = command_with BIND_TRANSCEIVER 0 tag login
-command_of login (out.Submit tag number sms now) = command_with SUBMIT_SM 0 tag (Message (submit_of number sms now))
-command_of login (out.ReportReply tag) = command_with DELIVER_SM_RESP 0 tag DeliverReply
-command_of login (out.MessageReply tag true) = command_with DELIVER_SM_RESP 0 tag DeliverReply
-command_of login (out.MessageReply tag false) = command_with DELIVER_SM_RESP 0x14 tag DeliverReply
-command_of login (out.Keep tag) = command_with ENQUIRE_LINK 0 tag Nothing
-command_of login (out.KeepReply tag) = command_with ENQUIRE_LINK_RESP 0 tag Nothing
-command_of login (out.ByeReply tag) = command_with UNBIND_RESP 0 tag Nothing
-command_of login (out.Nack tag id) = command_with GENERIC_NACK 0x03 tag Nothing
+command_of login (out.Login tag) = command_with bind_transceiver 0 tag login
+command_of login (out.Submit tag number sms now) = command_with submit_sm 0 tag (Message (submit_of number sms now))
+command_of login (out.ReportReply tag) = command_with deliver_sm_resp 0 tag DeliverReply
+command_of login (out.MessageReply tag true) = command_with deliver_sm_resp 0 tag DeliverReply
+command_of login (out.MessageReply tag false) = command_with deliver_sm_resp 0x14 tag DeliverReply
+command_of login (out.Keep tag) = command_with enquire_link 0 tag Nothing
+command_of login (out.KeepReply tag) = command_with enquire_link_resp 0 tag Nothing
+command_of login (out.ByeReply tag) = command_with unbind_resp 0 tag Nothing
+command_of login (out.Nack tag id) = command_with generic_nack 0x03 tag Nothing
 
 -- the octets of what is said
 abbrev pub said : BindFields → Out → List ℕ

@@ -5,6 +5,7 @@ ghost use Rattle.std.specs.List.{flat_map};
 ghost use Rattle.gsm_alphabet.specs.Alphabet.{septets_of};
 ghost use Rattle.smpp_wire.specs.Command.{fields_of};
 ghost use Rattle.smpp_wire.specs.Grammar.{IsOf, row_of};
+ghost use Rattle.smpp_wire.specs.Ids.{deliver_sm};
 ghost use Rattle.link_core.specs.Arrivals.{address_of, body_of};
 ghost use Rattle.smpp_link.specs.Delivery as spec;
 
@@ -151,7 +152,7 @@ fn contents_of(
 /// # Errors
 /// `Memory`.
 pub(crate) fn delivered(alloc: Global, tag: u32, body: &Body) -> Result<Heard, Memory>
-    requires { IsOf (row_of DELIVER_SM) (fields_of body.now) }
+    requires { IsOf (row_of deliver_sm) (fields_of body.now) }
     ensures { IfOk result (λ heard. heard ≡ spec.delivered tag (fields_of body.now)) }
 {
     match *body {

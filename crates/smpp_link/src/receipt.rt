@@ -3,6 +3,7 @@
 ghost use Rattle.std.specs.Prelude.{◌≡◌, take, drop, codes, option_copied, IfOk};
 ghost use Rattle.smpp_wire.specs.Grammar.{AreTlvs};
 ghost use Rattle.smpp_link.specs.Receipts as spec;
+ghost use Rattle.smpp_link.specs.TlvTags.{receipted_message_id, message_state};
 
 use kn_base::{Memory, Octets};
 use link_core::Heard;
@@ -84,7 +85,7 @@ fn without_end(text: &[u8]) -> &[u8]
 /// The centre's id of the message.
 fn id_in<'a>(text: &'a [u8], tlvs: &'a [u8]) -> &'a [u8]
     requires { AreTlvs tlvs.now }
-    ensures { result.now ≡ spec.id_of (spec.value_in RECEIPTED_MESSAGE_ID tlvs.now) (spec.word_behind (codes "id:") text.now) }
+    ensures { result.now ≡ spec.id_of (spec.value_in receipted_message_id tlvs.now) (spec.word_behind (codes "id:") text.now) }
 {
     match value_of(tlvs, RECEIPTED_MESSAGE_ID) {
         Some(id) => without_end(id),
@@ -131,7 +132,7 @@ fn kind_of_word(word: &[u8]) -> Kind
 /// What became of the message.
 fn kind_in(text: &[u8], tlvs: &[u8]) -> Kind
     requires { AreTlvs tlvs.now }
-    ensures { result ≡ spec.kind_of (spec.value_in MESSAGE_STATE tlvs.now) (spec.word_behind (codes "stat:") text.now) }
+    ensures { result ≡ spec.kind_of (spec.value_in message_state tlvs.now) (spec.word_behind (codes "stat:") text.now) }
 {
     match value_of(tlvs, MESSAGE_STATE) {
         Some(state) => kind_of_state(state),

@@ -3,7 +3,7 @@
 ghost use Rattle.std.specs.Prelude.{◌≡◌, ◌<◌, ◌^◌, IfOk};
 ghost use Rattle.route_rules.specs.declared.link_kind.LinkKind.TheVariants.{Smpp};
 ghost use Rattle.smpp_wire.specs.Command.{fields_of};
-ghost use Rattle.smpp_wire.specs.declared.command.TheConstants.{BIND_TRANSCEIVER as BIND};
+ghost use Rattle.smpp_wire.specs.Ids.{bind_transceiver as BIND};
 ghost use Rattle.smpp_wire.specs.Grammar.{row_of, IsOf, IsCommand, frame};
 ghost use Rattle.link_core.specs.Saying.{out_tag, MaySay};
 ghost use Rattle.smpp_link.specs.Hearing.{Hears};

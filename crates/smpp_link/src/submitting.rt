@@ -2,7 +2,7 @@
 
 ghost use Rattle.std.specs.Prelude.{◌≡◌, ◌<◌, ◌≤◌, ◌^◌, ◌++◌, IfOk, IfSome};
 ghost use Rattle.route_rules.specs.declared.link_kind.LinkKind.TheVariants.{Smpp};
-ghost use Rattle.smpp_wire.specs.declared.command.TheConstants.{SUBMIT_SM as SUBMIT};
+ghost use Rattle.smpp_wire.specs.Ids.{submit_sm as SUBMIT};
 ghost use Rattle.smpp_wire.specs.Command.{Message, fields_of};
 ghost use Rattle.smpp_wire.specs.Grammar.{frame};
 ghost use Rattle.sms_record.specs.Record.{IsSms, address_text};

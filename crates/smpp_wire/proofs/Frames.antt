@@ -12,7 +12,7 @@ use Rattle.exact_octets.proofs.Readers.{AreOctets, IsReader, then_reads, ◌&◌
 use Rattle.exact_octets.proofs.Digits.{from_to_reads, up_to_reads}
 use Rattle.exact_octets.proofs.Fronts.{reads_first, lies_within}
 use Rattle.smpp_wire.specs.declared.frame.Frame.TheVariants as answer
-use Rattle.smpp_wire.specs.declared.frame.TheConstants.{BAD_LENGTH, BAD_BODY}
+use Rattle.smpp_wire.specs.Limits.{bad_length, bad_body}
 use Rattle.smpp_wire.specs.declared.pdu.Pdu.{Pdu}
 use Rattle.smpp_wire.specs.declared.row.Row.TheVariants as row
 use Rattle.smpp_wire.specs.Command.{Fields, Command, command_of}
@@ -179,9 +179,9 @@ reads_malformed octets left are e =
     tells : (octets : List ℕ) (at : ℕ) → BreaksOffAt IsFrame octets at → Tells octets (refused at)
     tells octets at broken = within at (ltb at 4) refl broken
       where
-        within : (at : ℕ) (early : Bool) → ltb at 4 ≡ early → BreaksOffAt IsFrame octets at → Tells octets (cond early (answer.Bad 0 BAD_LENGTH) (answer.Bad at BAD_BODY))
-        within at true e broken = (at, broken, ap (λ (b : Bool). cond b (answer.Bad 0 BAD_LENGTH) (answer.Bad at BAD_BODY)) (sym e))
-        within at false e broken = (at, broken, ap (λ (b : Bool). cond b (answer.Bad 0 BAD_LENGTH) (answer.Bad at BAD_BODY)) (sym e))
+        within : (at : ℕ) (early : Bool) → ltb at 4 ≡ early → BreaksOffAt IsFrame octets at → Tells octets (cond early (answer.Bad 0 bad_length) (answer.Bad at bad_body))
+        within at true e broken = (at, broken, ap (λ (b : Bool). cond b (answer.Bad 0 bad_length) (answer.Bad at bad_body)) (sym e))
+        within at false e broken = (at, broken, ap (λ (b : Bool). cond b (answer.Bad 0 bad_length) (answer.Bad at bad_body)) (sym e))
 
     refusal : (octets : List ℕ) (at : ℕ) → ReadsFirst IsCommand frame octets (Err (told.Malformed at)) → IsReadAs octets (refused at)
     refusal octets at r = record {

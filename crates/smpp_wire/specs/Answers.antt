@@ -3,7 +3,7 @@ use Rattle.std.specs.Prelude.{◌≡◌, ℕ, List, ◌++◌, length, take, nat_
 use Rattle.exact_octets.specs.Fronts.{IsProperFront, BreaksOffAt}
 use Rattle.smpp_wire.specs.declared.frame.Frame.{Frame}
 use Rattle.smpp_wire.specs.declared.frame.Frame.TheVariants as answer
-use Rattle.smpp_wire.specs.declared.frame.TheConstants.{BAD_BODY, BAD_LENGTH}
+use Rattle.smpp_wire.specs.Limits.{bad_body, bad_length}
 use Rattle.smpp_wire.specs.Command.{Command, command_of}
 use Rattle.smpp_wire.specs.Grammar.{IsCommand, frame, IsFrame}
 
@@ -16,7 +16,7 @@ IsWhole command (answer.Bad at code) = ⊥
 -- how octets are refused whose longest front that begins a frame has so many octets: within command_length, the length is
 -- refused as a whole
 abbrev pub refused : ℕ → Frame
-refused at = if nat_lt at 4 then answer.Bad 0 BAD_LENGTH else answer.Bad at BAD_BODY
+refused at = if nat_lt at 4 then answer.Bad 0 bad_length else answer.Bad at bad_body
 
 -- what an answer says of the octets
 abbrev pub Tells : List ℕ → Frame → Type 0

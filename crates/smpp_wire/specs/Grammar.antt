@@ -4,7 +4,7 @@ use Rattle.std.specs.List.{flat_map, AllByRecursion}
 use Rattle.exact_octets.specs.Fronts.{IsSpelled}
 use Rattle.exact_octets.specs.Numbers.{number}
 use Rattle.exact_octets.specs.Spelling.{short, long}
-use Rattle.smpp_wire.specs.declared.command.TheConstants.{GENERIC_NACK, SUBMIT_SM, SUBMIT_SM_RESP, DELIVER_SM, DELIVER_SM_RESP, UNBIND, UNBIND_RESP, BIND_TRANSCEIVER, BIND_TRANSCEIVER_RESP, ENQUIRE_LINK, ENQUIRE_LINK_RESP}
+use Rattle.smpp_wire.specs.Ids.{generic_nack, submit_sm, submit_sm_resp, deliver_sm, deliver_sm_resp, unbind, unbind_resp, bind_transceiver, bind_transceiver_resp, enquire_link, enquire_link_resp}
 use Rattle.smpp_wire.specs.declared.row.Row.{Row}
 use Rattle.smpp_wire.specs.declared.row.Row.TheVariants as row
 use Rattle.smpp_wire.specs.Command.{BindFields, MessageFields, Fields, Bind, BindReply, Message, SubmitReply, DeliverReply, Nothing, Any, Command}
@@ -101,12 +101,12 @@ body (Any octets) = octets
 -- the row of a command_id (5.1.2.1)
 abbrev pub row_of : ℕ → Row
 row_of id =
-    if id == BIND_TRANSCEIVER then row.Bind else
-    if id == BIND_TRANSCEIVER_RESP then row.BindReply else
-    if id == SUBMIT_SM || id == DELIVER_SM then row.Message else
-    if id == SUBMIT_SM_RESP then row.SubmitReply else
-    if id == DELIVER_SM_RESP then row.DeliverReply else
-    if id == GENERIC_NACK || id == UNBIND || id == UNBIND_RESP || id == ENQUIRE_LINK || id == ENQUIRE_LINK_RESP then row.Nothing else
+    if id == bind_transceiver then row.Bind else
+    if id == bind_transceiver_resp then row.BindReply else
+    if id == submit_sm || id == deliver_sm then row.Message else
+    if id == submit_sm_resp then row.SubmitReply else
+    if id == deliver_sm_resp then row.DeliverReply else
+    if id == generic_nack || id == unbind || id == unbind_resp || id == enquire_link || id == enquire_link_resp then row.Nothing else
     row.Any
 
 -- ---- the frames

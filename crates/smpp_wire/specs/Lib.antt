@@ -1,6 +1,8 @@
 pub use Rattle.exact_octets.specs.Fronts
 pub use Rattle.exact_octets.specs.Spelling
 pub use Rattle.exact_octets.specs.Numbers
+pub mod Ids
+pub mod Limits
 pub mod Command
 pub mod Grammar
 pub mod Tlvs

@@ -11,7 +11,7 @@ use Rattle.smpp_wire.specs.declared.room.Room.TheVariants.{From, Between, Tlvs}
 use Rattle.smpp_wire.specs.declared.row.Row.{Row}
 use Rattle.smpp_wire.specs.declared.row.Row.TheVariants as row
 use Rattle.smpp_wire.specs.declared.text.Sizes.{Sizes}
-use Rattle.smpp_wire.specs.declared.limits.TheConstants.{HEADER_LEN, MOST_FRAME, INTERFACE_VERSION}
+use Rattle.smpp_wire.specs.Limits.{header_octets, most_frame, version_3_4}
 use Rattle.smpp_wire.specs.Command.{BindFields, MessageFields, Fields, Bind, BindReply, Message, SubmitReply, DeliverReply, Nothing, Any, Command}
 use Rattle.smpp_wire.specs.Grammar.{Tlv, tlv_of, tlv, row_of}
 use Rattle.smpp_wire.specs.Room.{fits, room_of, up_to, times, may_end, may_go_on}
@@ -94,7 +94,7 @@ bind_of x = record {
 
 -- the version of the interface, and two octets
 unfoldable pub version_at : Reader (ℕ × (ℕ × ℕ))
-version_at = both (octet_at (within INTERFACE_VERSION INTERFACE_VERSION)) (λ version. two_at)
+version_at = both (octet_at (within version_3_4 version_3_4)) (λ version. two_at)
 
 -- the fields of a bind from the system_type on
 unfoldable pub system_at : ℕ → Reader (List ℕ × ((ℕ × (ℕ × ℕ)) × List ℕ))
@@ -196,8 +196,8 @@ number_of_four_at = number_at 4 (from_to 0 4294967295)
 -- how many octets a body has, and command_id, command_status, sequence_number
 unfoldable pub header_at : Reader (ℕ × (ℕ × (ℕ × ℕ)))
 header_at =
-    made (λ x. (x.0 - HEADER_LEN, x.1))
-    (both (number_at 4 (from_to HEADER_LEN MOST_FRAME)) (λ len. both (id_at (len - HEADER_LEN)) (λ id. both number_of_four_at (λ status. number_of_four_at))))
+    made (λ x. (x.0 - header_octets, x.1))
+    (both (number_at 4 (from_to header_octets most_frame)) (λ len. both (id_at (len - header_octets)) (λ id. both number_of_four_at (λ status. number_of_four_at))))
 
 abbrev pub command_from : (ℕ × (ℕ × (ℕ × ℕ))) × Fields → Command
 command_from x = record { id = x.0.1.0; status = x.0.1.1.0; sequence = x.0.1.1.1; fields = x.1 }

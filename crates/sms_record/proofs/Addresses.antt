@@ -10,7 +10,7 @@ use Rattle.exact_octets.proofs.Fields.{short_reads, octets_reads}
 use Rattle.exact_octets.proofs.Choices.{kind_reads}
 use Rattle.sms_record.specs.declared.address.Address.{Address}
 use Rattle.sms_record.specs.declared.address.Address.TheVariants.{Number, Text}
-use Rattle.sms_record.specs.declared.limits.TheConstants.{MOST_DIGITS, MOST_TEXT}
+use Rattle.sms_record.specs.Limits.{most_digits, most_address_text}
 use Rattle.sms_record.specs.Record.{IsAddress, address_kind, address_text, address}
 use Rattle.sms_record.specs.RecordReading.{address_text_at, address_of, address_at}
 
@@ -21,25 +21,25 @@ IsOfKind kind a = IsAddress a × (address_kind a ≡ kind)
 abbrev text_octets : Address → List ℕ
 text_octets a = short (address_text a)
 
-plain_back : (a : Address) → IsOfKind 0 a → (digits : List ℕ) × (Between 1 MOST_DIGITS (length digits) × All IsDigit digits) × (address_of 0 digits ≡ a) × (short digits ≡ text_octets a)
+plain_back : (a : Address) → IsOfKind 0 a → (digits : List ℕ) × (Between 1 most_digits (length digits) × All IsDigit digits) × (address_of 0 digits ≡ a) × (short digits ≡ text_octets a)
 plain_back (Number false digits) good = (digits, ((good.0.0, good.0.1), good.0.2), refl, refl)
 plain_back (Number true digits) good = absurd (omega (arith, good.1))
 plain_back (Text text) good = absurd (omega (arith, good.1))
 
-plus_back : (a : Address) → IsOfKind 1 a → (digits : List ℕ) × (Between 1 MOST_DIGITS (length digits) × All IsDigit digits) × (address_of 1 digits ≡ a) × (short digits ≡ text_octets a)
+plus_back : (a : Address) → IsOfKind 1 a → (digits : List ℕ) × (Between 1 most_digits (length digits) × All IsDigit digits) × (address_of 1 digits ≡ a) × (short digits ≡ text_octets a)
 plus_back (Number false digits) good = absurd (omega (arith, good.1))
 plus_back (Number true digits) good = (digits, ((good.0.0, good.0.1), good.0.2), refl, refl)
 plus_back (Text text) good = absurd (omega (arith, good.1))
 
-text_back : (a : Address) → IsOfKind 2 a → (text : List ℕ) × (length text ≤ MOST_TEXT) × (address_of 2 text ≡ a) × (short text ≡ text_octets a)
+text_back : (a : Address) → IsOfKind 2 a → (text : List ℕ) × (length text ≤ most_address_text) × (address_of 2 text ≡ a) × (short text ≡ text_octets a)
 text_back (Number false digits) good = absurd (omega (arith, good.1))
 text_back (Number true digits) good = absurd (omega (arith, good.1))
 text_back (Text text) good = (text, good.0, refl, refl)
 
 kind_text_reads : (kind : ℕ) → within 0 2 kind ≡ true → IsReader (IsOfKind kind) text_octets (made (address_of kind) (address_text_at kind))
-kind_text_reads zero e = made_reads (address_of 0) (short_reads 1 MOST_DIGITS Digit (omega arith)) (record { there = λ digits good. (((good.0.0, good.0.1, good.1), refl), refl); back = plain_back })
-kind_text_reads (suc zero) e = made_reads (address_of 1) (short_reads 1 MOST_DIGITS Digit (omega arith)) (record { there = λ digits good. (((good.0.0, good.0.1, good.1), refl), refl); back = plus_back })
-kind_text_reads (suc (suc zero)) e = made_reads (address_of 2) (octets_reads MOST_TEXT) (record { there = λ text good. ((good, refl), refl); back = text_back })
+kind_text_reads zero e = made_reads (address_of 0) (short_reads 1 most_digits Digit (omega arith)) (record { there = λ digits good. (((good.0.0, good.0.1, good.1), refl), refl); back = plain_back })
+kind_text_reads (suc zero) e = made_reads (address_of 1) (short_reads 1 most_digits Digit (omega arith)) (record { there = λ digits good. (((good.0.0, good.0.1, good.1), refl), refl); back = plus_back })
+kind_text_reads (suc (suc zero)) e = made_reads (address_of 2) (octets_reads most_address_text) (record { there = λ text good. ((good, refl), refl); back = text_back })
 kind_text_reads (suc (suc (suc kind))) e = absurd (omega (arith, (within_means 0 2 (suc (suc (suc kind))) e).1))
 
 kind_within : (a : Address) → IsAddress a → within 0 2 (address_kind a) ≡ true

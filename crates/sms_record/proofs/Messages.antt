@@ -14,7 +14,7 @@ use Rattle.exact_octets.proofs.Fields.{between_reads, counted_reads, octets_read
 use Rattle.exact_octets.proofs.Choices.{code_reads}
 use Rattle.sms_record.specs.declared.coding.Coding.{Coding}
 use Rattle.sms_record.specs.declared.coding.Coding.TheVariants.{Seven, Eight, Ucs2}
-use Rattle.sms_record.specs.declared.limits.TheConstants.{MOST_PARTS, LAST_CLASS, MOST_MASK, MOST_MINUTES, LAST_TIME, MOST_BODY, MOST_NAME, MOST_URL}
+use Rattle.sms_record.specs.Limits.{most_parts, last_class, most_mask, most_minutes, last_time, most_body, most_name, most_url}
 use Rattle.sms_record.specs.declared.sms.Sms.{Sms}
 use Rattle.sms_record.specs.declared.record.marks.Marks.{Marks}
 use Rattle.sms_record.specs.declared.record.times.Times.{Times}
@@ -48,7 +48,7 @@ unfolding charset_at
 charset_reads = code_reads charset_code charsets (λ charset. ⊤) (tt, (tt, (tt, tt))) (λ charset good. charset_again charset) (Utf8, tt)
 
 abbrev IsClass : Option ℕ → Type 0
-IsClass o = IfSome o (λ class. class ≤ LAST_CLASS)
+IsClass o = IfSome o (λ class. class ≤ last_class)
 
 class_again : (class : Option ℕ) → IsClass class → value_of class_code classes (class_code class) ≡ Some class
 class_again None good = refl
@@ -63,7 +63,7 @@ unfolding class_at
 class_reads = code_reads class_code classes IsClass (tt, (omega arith, (omega arith, (omega arith, (omega arith, tt))))) class_again (None, tt)
 
 abbrev IsMarks : Marks → Type 0
-IsMarks m = IsClass m.class × (m.total ≤ MOST_PARTS) × (1 ≤ m.part) × (m.part ≤ m.total) × (m.mask ≤ MOST_MASK)
+IsMarks m = IsClass m.class × (m.total ≤ most_parts) × (1 ≤ m.part) × (m.part ≤ m.total) × (m.mask ≤ most_mask)
 
 abbrev marks_octets : Marks → List ℕ
 marks_octets m = coding_code m.coding ∷ class_code m.class ∷ charset_code m.charset ∷ m.total ∷ m.part ∷ m.mask ∷ []
@@ -72,7 +72,7 @@ marks_reads : IsReader IsMarks marks_octets marks_at
 unfolding marks_at
 marks_reads =
     made_reads marks_of
-    (coding_reads & class_reads & charset_reads & then_reads (between_reads 1 MOST_PARTS (omega arith)) (λ total good. between_reads 1 total good.0 & between_reads 0 MOST_MASK (omega arith)))
+    (coding_reads & class_reads & charset_reads & then_reads (between_reads 1 most_parts (omega arith)) (λ total good. between_reads 1 total good.0 & between_reads 0 most_mask (omega arith)))
     (record {
       there = λ p good. ((good.1.0, good.1.1.1.0.1, good.1.1.1.1.0.0, good.1.1.1.1.0.1, good.1.1.1.1.1.1), refl);
       back = λ m good. ((m.coding, (m.class, (m.charset, (m.total, (m.part, m.mask))))), (tt, (good.0, (tt, ((omega (arith, good.2, good.3), good.1), ((good.2, good.3), (omega arith, good.4)))))), refl, refl);
@@ -81,7 +81,7 @@ marks_reads =
 -- ---- times
 
 abbrev IsTimes : Times → Type 0
-IsTimes t = (t.validity ≤ MOST_MINUTES) × (t.deferred ≤ MOST_MINUTES) × (t.time < 2 ^ 37)
+IsTimes t = (t.validity ≤ most_minutes) × (t.deferred ≤ most_minutes) × (t.time < 2 ^ 37)
 
 abbrev times_octets : Times → List ℕ
 times_octets t = to_be_bytes w32 t.validity ++ (to_be_bytes w32 t.deferred ++ to_be_bytes w64 t.time)
@@ -90,7 +90,7 @@ times_reads : IsReader IsTimes times_octets times_at
 unfolding times_at
 times_reads =
     made_reads times_of
-    (up_to_reads 4 MOST_MINUTES (omega arith) & up_to_reads 4 MOST_MINUTES (omega arith) & up_to_reads 8 LAST_TIME (omega arith))
+    (up_to_reads 4 most_minutes (omega arith) & up_to_reads 4 most_minutes (omega arith) & up_to_reads 8 last_time (omega arith))
     (record {
       there = λ p good. ((good.0, good.1.0, omega (arith, good.1.1)), refl);
       back = λ t good. ((t.validity, (t.deferred, t.time)), (good.0, (good.1, omega (arith, good.2))), refl, refl);
@@ -116,17 +116,17 @@ heading_reads =
 -- ---- the contents
 
 abbrev IsBody : Coding → List ℕ → Type 0
-IsBody coding body = (length body ≤ MOST_BODY) × IsOfCoding coding body
+IsBody coding body = (length body ≤ most_body) × IsOfCoding coding body
 
 body_reads : (coding : Coding) → IsReader (IsBody coding) long (body_at coding)
 body_reads Seven =
-    reworded_reads (counted_reads 2 (from_to 0 MOST_BODY) Septet (record { some = omega arith; short = omega arith; even = λ e. cc })) (λ xs good. (good.0.1, good.1)) (λ xs good. ((omega arith, good.0, λ e. cc), good.1))
-body_reads Eight = reworded_reads (counted_octets_reads 2 MOST_BODY (omega arith)) (λ xs good. (good, tt)) (λ xs good. good.0)
+    reworded_reads (counted_reads 2 (from_to 0 most_body) Septet (record { some = omega arith; short = omega arith; even = λ e. cc })) (λ xs good. (good.0.1, good.1)) (λ xs good. ((omega arith, good.0, λ e. cc), good.1))
+body_reads Eight = reworded_reads (counted_octets_reads 2 most_body (omega arith)) (λ xs good. (good, tt)) (λ xs good. good.0)
 body_reads Ucs2 =
-    reworded_reads (counted_reads 2 (even_up_to MOST_BODY) Any (record { some = omega arith; short = omega arith; even = λ e. refl })) (λ xs good. (good.0.1, good.0.2 refl)) (λ xs good. ((omega arith, good.0, λ e. good.1), λ k d lt. tt))
+    reworded_reads (counted_reads 2 (even_up_to most_body) Any (record { some = omega arith; short = omega arith; even = λ e. refl })) (λ xs good. (good.0.1, good.0.2 refl)) (λ xs good. ((omega arith, good.0, λ e. good.1), λ k d lt. tt))
 
 abbrev AreNames : Names → Type 0
-AreNames n = (length n.smsc ≤ MOST_NAME) × (length n.url ≤ MOST_URL) × (length n.account ≤ MOST_NAME) × (length n.service ≤ MOST_NAME)
+AreNames n = (length n.smsc ≤ most_name) × (length n.url ≤ most_url) × (length n.account ≤ most_name) × (length n.service ≤ most_name)
 
 abbrev names_octets : Names → List ℕ
 names_octets n = short n.smsc ++ (long n.url ++ (short n.account ++ short n.service))
@@ -134,7 +134,7 @@ names_octets n = short n.smsc ++ (long n.url ++ (short n.account ++ short n.serv
 names_reads : IsReader AreNames names_octets names_at
 unfolding names_at
 names_reads =
-    made_reads names_of (octets_reads MOST_NAME & counted_octets_reads 2 MOST_URL (omega arith) & octets_reads MOST_NAME & octets_reads MOST_NAME)
+    made_reads names_of (octets_reads most_name & counted_octets_reads 2 most_url (omega arith) & octets_reads most_name & octets_reads most_name)
     (record {
       there = λ p good. ((good.0, good.1.0, good.1.1.0, good.1.1.1), refl);
       back = λ n good. ((n.smsc, (n.url, (n.account, n.service))), (good.0, (good.1, (good.2, good.3))), refl, refl);

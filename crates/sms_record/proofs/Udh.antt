@@ -13,7 +13,7 @@ use Rattle.exact_octets.proofs.Tests.{and_true, both_true, Between, within_means
 use Rattle.exact_octets.proofs.Fields.{between_reads}
 use Rattle.sms_record.specs.Header.{Element, elements, IsHeaderOrNone}
 use Rattle.sms_record.specs.HeaderReading.{elements_at, udh_of_len_at, is_udh_len, udh_at}
-use Rattle.sms_record.specs.declared.limits.TheConstants.{MOST_HEADER}
+use Rattle.sms_record.specs.Limits.{most_header}
 use Rattle.sms_record.proofs.Headers.{Fills, not_one, elements_reads}
 
 abbrev pub IsHeaderOf : ℕ → List ℕ → Type 0
@@ -38,11 +38,11 @@ udh_of_len_reads (suc left) some =
       back = some_header left;
     })
 
-udh_len_reads : IsReader (λ len. (len ≤ MOST_HEADER) × (len ≡ 2 → ⊥)) (λ x. x ∷ []) (octet_at is_udh_len)
+udh_len_reads : IsReader (λ len. (len ≤ most_header) × (len ≡ 2 → ⊥)) (λ x. x ∷ []) (octet_at is_udh_len)
 udh_len_reads =
-    octet_reads is_udh_len (λ len. (len ≤ MOST_HEADER) × (len ≡ 2 → ⊥))
-    (λ x fits e. let t = and_true (within 0 MOST_HEADER x) (not (eqb x 2)) e in ((within_means 0 MOST_HEADER x t.0).1, eqb-false x 2 (not-true (eqb x 2) t.1)))
-    (λ x good. both_true (within 0 MOST_HEADER x) (not (eqb x 2)) (within_tests 0 MOST_HEADER x (omega arith, good.0)) (ap not (ne_eqb x 2 good.1))) (0, (omega arith, λ e. omega arith))
+    octet_reads is_udh_len (λ len. (len ≤ most_header) × (len ≡ 2 → ⊥))
+    (λ x fits e. let t = and_true (within 0 most_header x) (not (eqb x 2)) e in ((within_means 0 most_header x t.0).1, eqb-false x 2 (not-true (eqb x 2) t.1)))
+    (λ x good. both_true (within 0 most_header x) (not (eqb x 2)) (within_tests 0 most_header x (omega arith, good.0)) (ap not (ne_eqb x 2 good.1))) (0, (omega arith, λ e. omega arith))
 
 -- no header has two octets
 not_two : (octets : List ℕ) → IsHeaderOrNone octets → length octets ≡ 2 → ⊥
@@ -51,7 +51,7 @@ not_two octets (inr some) two = not_one some.0 (omega (arith, ap length some.1))
 
 -- a message's header
 abbrev pub IsUdh : List ℕ → Type 0
-IsUdh octets = (length octets ≤ MOST_HEADER) × IsHeaderOrNone octets
+IsUdh octets = (length octets ≤ most_header) × IsHeaderOrNone octets
 
 pub udh_reads : IsReader IsUdh short udh_at
 unfolding udh_at

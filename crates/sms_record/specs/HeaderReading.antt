@@ -3,7 +3,7 @@ use Rattle.std.specs.Prelude.{ℕ, zero, suc, ◌+◌, Bool, ◌&&◌, not, List
 use Rattle.exact_octets.specs.declared.alphabet.Alphabet.TheVariants.{Any}
 use Rattle.exact_octets.specs.Alphabet.{within, is_in}
 use Rattle.exact_octets.specs.Reading.{Reader, both, made, given, octet_at, octets_at, filled_at}
-use Rattle.sms_record.specs.declared.limits.TheConstants.{MOST_HEADER}
+use Rattle.sms_record.specs.Limits.{most_header}
 use Rattle.sms_record.specs.Header.{Element, element, elements}
 
 -- how many octets the value of an element may have, where so many octets are left for it and the elements behind it:
@@ -41,7 +41,7 @@ udh_of_len_at (suc left) = made (λ x. x.0 ∷ elements x.1) (both (octet_at (wi
 
 -- how many octets it may have: behind the first of two there would be one alone, which is no element
 abbrev pub is_udh_len : ℕ → Bool
-is_udh_len len = within 0 MOST_HEADER len && not (len == 2)
+is_udh_len len = within 0 most_header len && not (len == 2)
 
 unfoldable pub udh_at : Reader (List ℕ)
 udh_at = made (λ x. x.1) (both (octet_at is_udh_len) udh_of_len_at)

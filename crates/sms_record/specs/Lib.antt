@@ -2,6 +2,7 @@ pub use Rattle.exact_octets.specs.Alphabet
 pub use Rattle.exact_octets.specs.Spelling
 pub use Rattle.exact_octets.specs.Fronts
 pub use Rattle.exact_octets.specs.Reading
+pub mod Limits
 pub mod Header
 pub mod Codes
 pub mod Record

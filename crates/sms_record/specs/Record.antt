@@ -8,14 +8,14 @@ use Rattle.sms_record.specs.declared.address.Address.TheVariants.{Number, Text}
 use Rattle.sms_record.specs.declared.coding.Coding.{Coding}
 use Rattle.sms_record.specs.declared.coding.Coding.TheVariants.{Seven, Eight, Ucs2}
 use Rattle.sms_record.specs.declared.sms.Sms.{Sms}
-use Rattle.sms_record.specs.declared.limits.TheConstants.{MOST_DIGITS, MOST_TEXT, MOST_PARTS, LAST_CLASS, MOST_MASK, MOST_MINUTES, MOST_HEADER, MOST_BODY, MOST_NAME, MOST_URL}
+use Rattle.sms_record.specs.Limits.{most_digits, most_address_text, most_parts, last_class, most_mask, most_minutes, most_header, most_body, most_name, most_url}
 use Rattle.sms_record.specs.Codes.{coding_code, class_code, charset_code}
 use Rattle.sms_record.specs.Header.{IsHeaderOrNone}
 
 -- a number has at least one digit, and at most as many as ITU-T E.164, section 6, allows
 abbrev pub IsAddress : Address → Type 0
-IsAddress (Number plus digits) = (1 ≤ length digits) × (length digits ≤ MOST_DIGITS) × All IsDigit digits
-IsAddress (Text octets) = length octets ≤ MOST_TEXT
+IsAddress (Number plus digits) = (1 ≤ length digits) × (length digits ≤ most_digits) × All IsDigit digits
+IsAddress (Text octets) = length octets ≤ most_address_text
 
 -- a body is of its coding: septets one in each octet, octets, or units of two octets
 abbrev pub IsOfCoding : Coding → List ℕ → Type 0
@@ -27,21 +27,21 @@ IsOfCoding Ucs2 body = length body % 2 ≡ 0
 pub record IsSms (sms : Sms) : Type 0 where
   pub sender : IsAddress sms.sender
   pub receiver : IsAddress sms.receiver
-  pub class : IfSome sms.class (λ class. class ≤ LAST_CLASS)
-  pub total : sms.total ≤ MOST_PARTS
+  pub class : IfSome sms.class (λ class. class ≤ last_class)
+  pub total : sms.total ≤ most_parts
   pub part : (1 ≤ sms.part) × (sms.part ≤ sms.total)
-  pub mask : sms.mask ≤ MOST_MASK
-  pub validity : sms.validity ≤ MOST_MINUTES
-  pub deferred : sms.deferred ≤ MOST_MINUTES
+  pub mask : sms.mask ≤ most_mask
+  pub validity : sms.validity ≤ most_minutes
+  pub deferred : sms.deferred ≤ most_minutes
   pub time : sms.time < 2 ^ 37
-  pub udh_len : length sms.udh ≤ MOST_HEADER
+  pub udh_len : length sms.udh ≤ most_header
   pub udh : IsHeaderOrNone sms.udh
-  pub body_len : length sms.body ≤ MOST_BODY
+  pub body_len : length sms.body ≤ most_body
   pub body : IsOfCoding sms.coding sms.body
-  pub smsc : length sms.smsc ≤ MOST_NAME
-  pub url : length sms.url ≤ MOST_URL
-  pub account : length sms.account ≤ MOST_NAME
-  pub service : length sms.service ≤ MOST_NAME
+  pub smsc : length sms.smsc ≤ most_name
+  pub url : length sms.url ≤ most_url
+  pub account : length sms.account ≤ most_name
+  pub service : length sms.service ≤ most_name
 
 -- the kind of an address: a number, a number behind a `+`, a text
 abbrev pub address_kind : Address → ℕ

@@ -12,7 +12,7 @@ use Rattle.sms_record.specs.declared.address.Address.TheVariants.{Number, Text}
 use Rattle.sms_record.specs.declared.coding.Coding.{Coding}
 use Rattle.sms_record.specs.declared.coding.Coding.TheVariants.{Seven, Eight, Ucs2}
 use Rattle.sms_record.specs.declared.sms.Sms.{Sms}
-use Rattle.sms_record.specs.declared.limits.TheConstants.{MOST_DIGITS, MOST_TEXT, MOST_PARTS, MOST_MASK, MOST_MINUTES, LAST_TIME, MOST_BODY, MOST_NAME, MOST_URL}
+use Rattle.sms_record.specs.Limits.{most_digits, most_address_text, most_parts, most_mask, most_minutes, last_time, most_body, most_name, most_url}
 use Rattle.sms_record.specs.declared.record.marks.Marks.{Marks}
 use Rattle.sms_record.specs.declared.record.times.Times.{Times}
 use Rattle.sms_record.specs.declared.record.heading.Heading.{Heading}
@@ -25,7 +25,7 @@ use Rattle.sms_record.specs.HeaderReading.{udh_at}
 
 -- the digits of a number, or a text, by the kind
 abbrev pub address_text_at : ℕ → Reader (List ℕ)
-address_text_at kind = if nat_lt kind 2 then short_at 1 MOST_DIGITS Digit else short_at 0 MOST_TEXT Any
+address_text_at kind = if nat_lt kind 2 then short_at 1 most_digits Digit else short_at 0 most_address_text Any
 
 abbrev pub address_of : ℕ → List ℕ → Address
 address_of zero text = Number false text
@@ -53,7 +53,7 @@ unfoldable pub marks_at : Reader Marks
 marks_at =
     made marks_of
     (both coding_at (λ coding. both class_at (λ class. both charset_at (λ charset.
-    both (octet_at (within 1 MOST_PARTS)) (λ total. both (octet_at (within 1 total)) (λ part. octet_at (within 0 MOST_MASK)))))))
+    both (octet_at (within 1 most_parts)) (λ total. both (octet_at (within 1 total)) (λ part. octet_at (within 0 most_mask)))))))
 
 -- ---- times
 
@@ -63,7 +63,7 @@ times_of x = record { validity = x.0; deferred = x.1.0; time = x.1.1 }
 unfoldable pub times_at : Reader Times
 times_at =
     made times_of
-    (both (number_at 4 (from_to 0 MOST_MINUTES)) (λ validity. both (number_at 4 (from_to 0 MOST_MINUTES)) (λ deferred. number_at 8 (from_to 0 LAST_TIME))))
+    (both (number_at 4 (from_to 0 most_minutes)) (λ validity. both (number_at 4 (from_to 0 most_minutes)) (λ deferred. number_at 8 (from_to 0 last_time))))
 
 -- ---- the heading
 
@@ -85,9 +85,9 @@ alphabet_of Ucs2 = Any
 
 -- how many octets a body may have
 abbrev pub body_lens : Coding → Numbers
-body_lens Seven = from_to 0 MOST_BODY
-body_lens Eight = from_to 0 MOST_BODY
-body_lens Ucs2 = even_up_to MOST_BODY
+body_lens Seven = from_to 0 most_body
+body_lens Eight = from_to 0 most_body
+body_lens Ucs2 = even_up_to most_body
 
 abbrev pub body_at : Coding → Reader (List ℕ)
 body_at coding = counted_at 2 (body_lens coding) (alphabet_of coding)
@@ -98,7 +98,7 @@ names_of x = record { smsc = x.0; url = x.1.0; account = x.1.1.0; service = x.1.
 unfoldable pub names_at : Reader Names
 names_at =
     made names_of
-    (both (short_at 0 MOST_NAME Any) (λ smsc. both (counted_at 2 (from_to 0 MOST_URL) Any) (λ url. both (short_at 0 MOST_NAME Any) (λ account. short_at 0 MOST_NAME Any))))
+    (both (short_at 0 most_name Any) (λ smsc. both (counted_at 2 (from_to 0 most_url) Any) (λ url. both (short_at 0 most_name Any) (λ account. short_at 0 most_name Any))))
 
 abbrev pub contents_of : List ℕ × (List ℕ × Names) → Contents
 contents_of x = record { udh = x.0; body = x.1.0; names = x.1.1 }

@@ -22,6 +22,10 @@ pub record Areas : Type 0 where
 abbrev pub no_areas : Areas
 no_areas = record { a = []; b = []; pick = [] }
 
+-- the last place at which a write may end, in octets: 2^62
+abbrev pub last_end : ℕ
+last_end = 4611686018427387904
+
 -- the octets of one area
 abbrev pub octets_of : Areas → Area → List ℕ
 octets_of areas A = areas.a

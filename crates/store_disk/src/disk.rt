@@ -2,7 +2,7 @@
 
 ghost use Rattle.std.specs.Prelude.{◌≡◌, ◌<◌, ◌≤◌, ◌+◌, ◌↔◌, ℕ, Bool, length, IfOk, IsTrue, OnOk};
 ghost use Rattle.std.specs.Bool.{OnTrue};
-ghost use Rattle.store_disk.specs.Disk.{CountsCall, IsWithin, Reads, octets_of};
+ghost use Rattle.store_disk.specs.Disk.{CountsCall, last_end, IsWithin, Reads, octets_of};
 ghost use Rattle.store_disk.specs.Story.{Story, Cuts, Syncs, Writes, reads};
 
 use crate::Area;
@@ -12,7 +12,7 @@ pub const LAST_END: u64 = 1 << 62;
 
 /// Whether a write of so many octets would end past `LAST_END`.
 pub fn ends_late(at: u64, count: u64) -> bool
-    ensures { IsTrue result ↔ (LAST_END < at + count) }
+    ensures { IsTrue result ↔ (last_end < at + count) }
 {
     at > LAST_END || count > LAST_END - at
 }
@@ -56,7 +56,7 @@ pub trait Disk {
         requires inside { OnTrue tells (IsWithin (reads (story self.old)) area at) }
         ensures counted { CountsCall (calls self.old) (calls self.new) (faults self.old) (faults self.new) result }
         ensures written { OnTrue tells (Writes area at bytes.now result (story self.old) (story self.new)) }
-        ensures end { OnOk result (at + length bytes.now ≤ LAST_END) };
+        ensures end { OnOk result (at + length bytes.now ≤ last_end) };
 
     /// Cuts an area to a size in octets. After a fault it has some length between.
     fn cut(&mut self, area: Area, size: u64) -> Result<(), DiskFailed>

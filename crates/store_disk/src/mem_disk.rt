@@ -3,9 +3,9 @@
 ghost use Rattle.std.specs.Prelude.{◌≡◌, ◌+◌, ◌≤◌, ◌∷◌, ◌↔◌, false, length, take, IfOk, OnOk, OnErr, IsErr};
 ghost use Rattle.kn_base.specs.Calls.{IsFailing, one_more};
 ghost use Rattle.kn_base.specs.Count.{next_count};
-ghost use Rattle.store_disk.specs.Disk.{CountsCall, IsWithin};
+ghost use Rattle.store_disk.specs.Disk.{CountsCall, IsWithin, last_end};
 
-use crate::disk::{LAST_END, ends_late};
+use crate::disk::ends_late;
 use crate::entry::{Deed, Entry};
 use crate::mem_area::{behind, covered, write_over};
 use crate::mem_stop::{before_all, entries_up_to, left_by};
@@ -474,7 +474,7 @@ impl Disk for MemDisk {
         requires inside { IsWithin (reads (mem_story self.old)) area at }
         ensures counted { CountsCall (mem_calls self.old).made (mem_calls self.new).made (mem_faults self.old) (mem_faults self.new) result }
         ensures written { Writes area at bytes.now result (mem_story self.old) (mem_story self.new) }
-        ensures end { OnOk result (at + length bytes.now ≤ LAST_END) }
+        ensures end { OnOk result (at + length bytes.now ≤ last_end) }
         ensures told { OnErr result (FailsToWrite area at bytes.now (mem_story self.old) (mem_story self.new) ⊎ Rose (mem_starved self.old) (mem_starved self.new)) }
         ensures unwritten { OnErr result (mem_areas self.new ≡ mem_areas self.old) }
         ensures due { OnOk result (¬ IsFailing (mem_calls self.old)) }

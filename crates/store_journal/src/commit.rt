@@ -2,12 +2,12 @@
 
 ghost use Rattle.std.specs.Prelude.{◌<◌, ◌≤◌, ◌+◌, length, OnOk};
 ghost use Rattle.std.specs.Bool.{OnTrue};
-ghost use Rattle.store_disk.specs.Disk.{IsWithin};
+ghost use Rattle.store_disk.specs.Disk.{IsWithin, last_end};
 ghost use Rattle.store_disk.specs.Story.{reads};
 ghost use Rattle.store_journal.specs.Costs.{Spends};
 ghost use Rattle.store_journal.specs.Keeping.{WritesSynced};
 
-use store_disk::{Area, Disk, DiskFailed, LAST_END};
+use store_disk::{Area, Disk, DiskFailed};
 
 /// Writes octets to an area from a place on, which is in octets, and syncs the area.
 pub fn write_synced<D: Disk>(
@@ -19,7 +19,7 @@ pub fn write_synced<D: Disk>(
     requires some { 0 < length octets.now }
     requires inside { OnTrue D.tells (IsWithin (reads (D.story disk.old)) area at) }
     ensures written { OnTrue D.tells (WritesSynced area at octets.now result (D.story disk.old) (D.story disk.new)) }
-    ensures end { OnOk result (at + length octets.now ≤ LAST_END) }
+    ensures end { OnOk result (at + length octets.now ≤ last_end) }
     ensures spends { Spends 2 (D.calls disk.old) (D.calls disk.new) (D.faults disk.old) (D.faults disk.new) result }
 {
     disk.write_at(area, at, octets)?;

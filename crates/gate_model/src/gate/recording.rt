@@ -1,7 +1,7 @@
 //! Entries that are recorded.
 
 ghost use Rattle.std.specs.Prelude.{◌≡◌, ◌<◌, ◌≤◌, ◌+◌, true, length};
-ghost use Rattle.gate_entries.specs.declared.limits.TheConstants.{MOST_MESSAGES};
+ghost use Rattle.gate_entries.specs.Limits.{most_messages};
 ghost use Rattle.gate_model.specs.Fold.{recorded, does, moves, counts_entry, accepts, answers, arrives};
 ghost use Rattle.gate_model.specs.Gate.{model_of, rules_of, birth_of, entry_of, IsGate, Becomes, HasRoom, HasRoomFor};
 ghost use Rattle.gate_model.specs.Lawful.{IsSound, most_entries};
@@ -82,7 +82,7 @@ impl Gate {
         requires whole { IsGate self.old }
         requires room { length parts ≤ self.old.waiting.room }
         requires few { (model_of self.old).entries < most_entries }
-        requires short { length parts ≤ MOST_MESSAGES }
+        requires short { length parts ≤ most_messages }
         ensures state { Becomes self.old self.new (counts_entry (accepts parts (model_of self.old))) }
         ensures reply { result ≡ Reply.Accepted ((model_of self.old).last_message + 1) (length parts) queued }
     {
@@ -104,7 +104,7 @@ impl Gate {
         requires whole { IsGate self.old }
         requires room { length answered.parts ≤ self.old.waiting.room }
         requires few { (model_of self.old).entries < most_entries }
-        requires short { length answered.parts ≤ MOST_MESSAGES }
+        requires short { length answered.parts ≤ most_messages }
         ensures state { Becomes self.old self.new (counts_entry (accepts answered.parts (answers answered.arrivals (model_of self.old)))) }
         ensures reply { result ≡ Reply.Accepted ((model_of self.old).last_message + 1) (length answered.parts) queued }
     {

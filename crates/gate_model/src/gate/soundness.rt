@@ -10,14 +10,12 @@ ghost use Rattle.gate_model.specs.Lawful.{most_entries};
 use crate::gate::checking::MOST_ENTRIES;
 use crate::{Gate, Waiting};
 use gate_entries::{Cause, Recorded};
-
-/// The first time that is no reading of the clock.
-const END_OF_TIME: u64 = 1 << 37;
+use kn_base::CLOCK_END;
 
 fn is_time(time: u64) -> bool
     ensures { result ≡ spec.is_time time }
 {
-    time < END_OF_TIME
+    time < CLOCK_END
 }
 
 /// Whether a message is no longer worth sending, if an end was asked for.

@@ -1,6 +1,6 @@
 use Rattle.std.proofs.Common.{List, ℕ, ap, sym, refl, ◌∙◌, subst, length, ◌≤◌, arith}
 use Rattle.std.specs.Prelude.{Some}
-use Rattle.sms_record.specs.declared.limits.TheConstants.{MOST_NAME}
+use Rattle.sms_record.specs.Limits.{most_name}
 use Rattle.gate_entries.specs.declared.recorded.Recorded.TheVariants as entry
 use Rattle.link_turn.specs.declared.session.Recording.TheVariants as recording_is
 use Rattle.link_turn.specs.Due.{arrive}
@@ -11,8 +11,8 @@ use Rattle.link_turn.proofs.session.Session.arrived.Goals as goal
 pub returns-clause-wished : goal.returns-clause-wished
 returns-clause-wished g c =
     let w = c.requires.well in
-    let smsc : length c.in-Ok-Ok.smsc ≤ MOST_NAME = subst (λ (x : List ℕ). length x ≤ MOST_NAME) (sym c.in-Ok-Ok.ensures) w.smsc in
-    let own : length c.in-Ok-Ok.own ≤ MOST_NAME = subst (λ (x : List ℕ). length x ≤ MOST_NAME) (sym c.in-Ok-Ok.ensures') w.smsc in
+    let smsc : length c.in-Ok-Ok.smsc ≤ most_name = subst (λ (x : List ℕ). length x ≤ most_name) (sym c.in-Ok-Ok.ensures) w.smsc in
+    let own : length c.in-Ok-Ok.own ≤ most_name = subst (λ (x : List ℕ). length x ≤ most_name) (sym c.in-Ok-Ok.ensures') w.smsc in
     record {
       sound = record { well = record { few = w.few; enough = w.enough; tag = w.tag; smsc = w.smsc; in_time = w.in_time }; phase = c.requires.tag };
       listens = tt;
