@@ -1,7 +1,8 @@
 -- What a disk in memory holds and has counted, and the story that its log tells.
-use Rattle.std.specs.Prelude.{ℕ, List, [], ◌∷◌, ◌++◌, ◌+◌, take, drop, reverse}
+use Rattle.std.specs.Prelude.{ℕ, true, List, [], ◌∷◌, ◌++◌, ◌+◌, take, drop, reverse}
 use Rattle.kn_base.specs.Calls.{Calls}
 use Rattle.store_disk.specs.Disk.{Areas, octets_of, with_octets}
+use Rattle.store_disk.specs.Meaning.{Meaning}
 use Rattle.store_disk.specs.Story.{Act, Story, wrote, cut, synced, tell, untold}
 use Rattle.store_disk.specs.declared.area.Area.{Area}
 use Rattle.store_disk.specs.declared.entry.Deed.{Deed}
@@ -53,6 +54,10 @@ told (entry ∷ log) areas = tell (act_of entry.area entry.deed (octets_of areas
 -- the story of a disk
 abbrev pub mem_story : MemDisk → Story
 mem_story disk = told (mem_log disk) (mem_areas disk)
+
+-- what it means
+abbrev pub mem_meaning : Meaning MemDisk
+mem_meaning = record { tells = true; story = mem_story; faults = mem_faults; calls = λ disk. (mem_calls disk).made }
 
 -- the entry of a write over areas as they are before it, and of a cut that leaves so many octets
 abbrev pub write_entry : ℕ → Area → ℕ → ℕ → Areas → Entry

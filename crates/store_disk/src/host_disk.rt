@@ -64,8 +64,8 @@ impl<R: Files<File = File>> HostDisk<R> {
     pub fn new(alloc: Global, rt: R, name: &[u8]) -> Result<HostDisk<R>, Memory>
     where
         R: Drop,
-        ensures calls { IfOk result (λ disk. ⟦<HostDisk<R> as Disk>⟧.calls disk ≡ 0) }
-        ensures faults { IfOk result (λ disk. ⟦<HostDisk<R> as Disk>⟧.faults disk ≡ 0) }
+        ensures calls { IfOk result (λ disk. ⟦<HostDisk<R> as Disk>⟧.meaning.calls disk ≡ 0) }
+        ensures faults { IfOk result (λ disk. ⟦<HostDisk<R> as Disk>⟧.meaning.faults disk ≡ 0) }
     {
         Ok(HostDisk {
             rt,
@@ -96,13 +96,7 @@ impl<R: Files<File = File>> Disk for HostDisk<R> {
     ghost use Rattle.store_disk.specs.Story.{untold};
     ghost use Rattle.std.specs.Prelude.{false};
 
-    ghost tells = { false };
-
-    ghost story = { λ _. untold no_areas };
-
-    ghost faults = { λ disk. disk.faults };
-
-    ghost calls = { λ disk. disk.calls };
+    ghost meaning = { record { tells = false; story = λ _. untold no_areas; faults = λ disk. disk.faults; calls = λ disk. disk.calls } };
 
     fn size(&mut self, area: Area) -> Result<u64, DiskFailed> {
         let done = self.files.of(area).size(&self.rt);

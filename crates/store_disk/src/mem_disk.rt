@@ -3,7 +3,8 @@
 ghost use Rattle.std.specs.Prelude.{◌≡◌, ◌+◌, ◌≤◌, ◌∷◌, ◌↔◌, false, length, take, IfOk, OnOk, OnErr, IsErr};
 ghost use Rattle.kn_base.specs.Calls.{IsFailing, one_more};
 ghost use Rattle.kn_base.specs.Count.{next_count};
-ghost use Rattle.store_disk.specs.Disk.{CountsCall, IsWithin, last_end};
+ghost use Rattle.store_disk.specs.Disk.{IsWithin, last_end};
+ghost use Rattle.store_disk.specs.Meaning.{Counts};
 
 use crate::disk::ends_late;
 use crate::entry::{Deed, Entry};
@@ -297,7 +298,7 @@ impl MemDisk {
 impl MemDisk {
     ghost use Rattle.std.specs.Prelude.{◌⊎◌, true, IsTrue};
     ghost use Rattle.store_disk.specs.Stop.{NotesOne, NumbersCall};
-    ghost use Rattle.store_disk.specs.MemDisk.{mem_areas, mem_calls, mem_faults, mem_log, mem_starved, mem_story};
+    ghost use Rattle.store_disk.specs.MemDisk.{mem_areas, mem_calls, mem_faults, mem_log, mem_meaning, mem_starved, mem_story};
     ghost use Rattle.kn_base.specs.Count.{Rose, last_count};
     ghost use Rattle.store_disk.specs.Story.{Cuts, FailsToCut, FailsToWrite, Syncs, Writes};
 
@@ -391,7 +392,7 @@ impl MemDisk {
     fn begin(&mut self) -> Result<(), DiskFailed>
         ensures fails { IsErr result ↔ IsFailing (mem_calls self.old) }
         ensures calls { mem_calls self.new ≡ one_more (mem_calls self.old) }
-        ensures counted { CountsCall (mem_calls self.old).made (mem_calls self.new).made (mem_faults self.old) (mem_faults self.new) result }
+        ensures counted { Counts mem_meaning self.old self.new result }
         ensures numbered { NumbersCall false self.old self.new }
         ensures areas { mem_areas self.new ≡ mem_areas self.old }
         ensures story { mem_story self.new ≡ mem_story self.old }
@@ -428,20 +429,14 @@ impl Disk for MemDisk {
     ghost use Rattle.std.specs.Prelude.{◌<◌, ◌⊎◌, true};
     ghost use Rattle.store_disk.specs.Stop.{NumbersCall};
     ghost use Rattle.store_disk.specs.Disk.{Reads, octets_of};
-    ghost use Rattle.store_disk.specs.MemDisk.{mem_areas, mem_calls, mem_faults, mem_starved, mem_story};
+    ghost use Rattle.store_disk.specs.MemDisk.{mem_areas, mem_calls, mem_meaning, mem_starved, mem_story};
     ghost use Rattle.kn_base.specs.Count.{Rose};
     ghost use Rattle.store_disk.specs.Story.{Cuts, FailsToCut, FailsToWrite, Syncs, Writes, reads};
 
-    ghost tells = { true };
-
-    ghost story = { mem_story };
-
-    ghost faults = { mem_faults };
-
-    ghost calls = { λ disk. (mem_calls disk).made };
+    ghost meaning = { mem_meaning };
 
     fn size(&mut self, area: Area) -> Result<u64, DiskFailed>
-        ensures counted { CountsCall (mem_calls self.old).made (mem_calls self.new).made (mem_faults self.old) (mem_faults self.new) result }
+        ensures counted { Counts mem_meaning self.old self.new result }
         ensures kept { mem_story self.new ≡ mem_story self.old }
         ensures size { IfOk result (λ size. size ≡ length (octets_of (reads (mem_story self.old)) area)) }
         ensures areas { mem_areas self.new ≡ mem_areas self.old }
@@ -455,7 +450,7 @@ impl Disk for MemDisk {
 
     fn read(&mut self, area: Area, at: u64, into: &mut [u8]) -> Result<(), DiskFailed>
         requires { IsWithin (reads (mem_story self.old)) area (at + length into.old) }
-        ensures counted { CountsCall (mem_calls self.old).made (mem_calls self.new).made (mem_faults self.old) (mem_faults self.new) result }
+        ensures counted { Counts mem_meaning self.old self.new result }
         ensures kept { mem_story self.new ≡ mem_story self.old }
         ensures read { OnOk result (Reads (reads (mem_story self.old)) area at into.new) }
         ensures areas { mem_areas self.new ≡ mem_areas self.old }
@@ -472,7 +467,7 @@ impl Disk for MemDisk {
     fn write_at(&mut self, area: Area, at: u64, bytes: &[u8]) -> Result<(), DiskFailed>
         requires some { 0 < length bytes.now }
         requires inside { IsWithin (reads (mem_story self.old)) area at }
-        ensures counted { CountsCall (mem_calls self.old).made (mem_calls self.new).made (mem_faults self.old) (mem_faults self.new) result }
+        ensures counted { Counts mem_meaning self.old self.new result }
         ensures written { Writes area at bytes.now result (mem_story self.old) (mem_story self.new) }
         ensures end { OnOk result (at + length bytes.now ≤ last_end) }
         ensures told { OnErr result (FailsToWrite area at bytes.now (mem_story self.old) (mem_story self.new) ⊎ Rose (mem_starved self.old) (mem_starved self.new)) }
@@ -490,7 +485,7 @@ impl Disk for MemDisk {
     /// A cut whose number is failing fails. After a fault the area holds what it held.
     fn cut(&mut self, area: Area, size: u64) -> Result<(), DiskFailed>
         requires { IsWithin (reads (mem_story self.old)) area size }
-        ensures counted { CountsCall (mem_calls self.old).made (mem_calls self.new).made (mem_faults self.old) (mem_faults self.new) result }
+        ensures counted { Counts mem_meaning self.old self.new result }
         ensures cut { Cuts area size result (mem_story self.old) (mem_story self.new) }
         ensures told { OnErr result (FailsToCut area size (mem_story self.old) (mem_story self.new) ⊎ Rose (mem_starved self.old) (mem_starved self.new)) }
         ensures uncut { OnErr result (mem_areas self.new ≡ mem_areas self.old) }
@@ -504,7 +499,7 @@ impl Disk for MemDisk {
     }
 
     fn sync(&mut self, area: Area) -> Result<(), DiskFailed>
-        ensures counted { CountsCall (mem_calls self.old).made (mem_calls self.new).made (mem_faults self.old) (mem_faults self.new) result }
+        ensures counted { Counts mem_meaning self.old self.new result }
         ensures synced { Syncs area result (mem_story self.old) (mem_story self.new) }
         ensures areas { mem_areas self.new ≡ mem_areas self.old }
         ensures due { OnOk result (¬ IsFailing (mem_calls self.old)) }
