@@ -20,6 +20,7 @@ use Rattle.gate_model.specs.declared.reply.Refusal.{Refusal}
 use Rattle.gate_model.specs.declared.reply.Refusal.TheVariants.{NoRoute, Full, Disk, Memory}
 use Rattle.gate_model.specs.declared.reply.Reply.{Reply}
 use Rattle.route_rules.specs.declared.rules.Rules.{Rules}
+use Rattle.store_disk.specs.Meaning.{Meaning}
 use Rattle.store_disk.specs.Story.{Story, LeavesOnly}
 use Rattle.gate_store.specs.Reopening.{MayReopenIn}
 use Rattle.gate_store.specs.Store.{IsStore, disk_in, birth_in, rules_in, state_in, unsure_in}
@@ -92,7 +93,7 @@ abbrev pub MayBeUnsure : Option Recorded → List Deed → Option Recorded → T
 MayBeUnsure before [] now = now ≡ before
 MayBeUnsure before (deed ∷ deeds) now = (between : Option Recorded) × LeavesUnsure before (entry_of deed) deed.outcome between × MayBeUnsure between deeds now
 
-module _ {D : Type 0} (tells : Bool) (story : D → Story) (faults calls : D → ℕ) where
+module _ {D : Type 0} (meaning : Meaning D) where
   -- One entry on a store. Where it was done its state is what the entry makes of it and the entry stands last, and else both are as they
   -- were. Whenever it stopped, its areas reopen to the state before, or to that with the entry that was unsure, or to that with this entry.
   pub record Performs (old : Store D) (kept : Recorded) (outcome : Result Reply Refusal) (new : Store D) : Type 0 where
@@ -101,11 +102,11 @@ module _ {D : Type 0} (tells : Bool) (story : D → Story) (faults calls : D →
     pub born : birth_in new ≡ birth_in old
     pub state : state_in new ≡ state_behind (birth_in old) (state_in old) kept outcome
     pub unsure : LeavesUnsure (unsure_in old) kept outcome (unsure_in new)
-    pub holds : (birth : ℕ) (entries : List Recorded) → IsStore tells story old birth entries
-        → IsStore tells story new birth (entries ++ put_behind kept outcome)
-    pub stops : OnTrue tells (LeavesOnly (story (disk_in old)) (story (disk_in new)) (MayReopenIn (birth_in old) (rules_in old) (state_in old) (unsure_in old) kept))
-    pub counted : CountsFault (is_by_disk outcome) (faults (disk_in old)) (faults (disk_in new))
-    pub bounded : calls (disk_in new) ≤ calls (disk_in old) + 6
+    pub holds : (birth : ℕ) (entries : List Recorded) → IsStore meaning old birth entries
+        → IsStore meaning new birth (entries ++ put_behind kept outcome)
+    pub stops : OnTrue meaning.tells (LeavesOnly (meaning.story (disk_in old)) (meaning.story (disk_in new)) (MayReopenIn (birth_in old) (rules_in old) (state_in old) (unsure_in old) kept))
+    pub counted : CountsFault (is_by_disk outcome) (meaning.faults (disk_in old)) (meaning.faults (disk_in new))
+    pub bounded : meaning.calls (disk_in new) ≤ meaning.calls (disk_in old) + 6
 
   -- one deed
   abbrev pub Does : Store D → Deed → Store D → Type 0
@@ -128,7 +129,7 @@ module _ {D : Type 0} (tells : Bool) (story : D → Story) (faults calls : D →
     pub state : state_in new ≡ passes brief (state_in old)
     pub unsure : unsure_in new ≡ unsure_in old
     pub disk : disk_in new ≡ disk_in old
-    pub holds : (birth : ℕ) (entries : List Recorded) → IsStore tells story old birth entries → IsStore tells story new birth entries
+    pub holds : (birth : ℕ) (entries : List Recorded) → IsStore meaning old birth entries → IsStore meaning new birth entries
 
   -- ---- the next message of a link
 

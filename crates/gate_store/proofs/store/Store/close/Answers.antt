@@ -11,11 +11,11 @@ use Rattle.gate_store.proofs.store.Store.close.Goals as goal
 pub returns-clause-stands : goal.returns-clause-stands
 returns-clause-stands g c = λ birth entries is.
     let store = c.args.self in
-    subst (λ d. OnTrue g.D.Disk.tells ((image : Areas) → IsImage (g.D.Disk.story d) image → MayStandFor birth entries (unsure_in store) image)) (sym c.close.ensures.disk)
-    (stands_now g.D.Disk.tells g.D.Disk.story store birth entries is)
+    subst (λ d. OnTrue g.D.Disk.meaning.tells ((image : Areas) → IsImage (g.D.Disk.meaning.story d) image → MayStandFor birth entries (unsure_in store) image)) (sym c.close.ensures.disk)
+    (stands_now g.D.Disk.meaning store birth entries is)
 
 pub returns-clause-stops : goal.returns-clause-stops
 returns-clause-stops g c = λ birth entries is.
     let store = c.args.self in
-    subst (λ d. OnTrue g.D.Disk.tells ((image : Areas) → IsImage (g.D.Disk.story d) image → MayReopen (birth_in store) (rules_in store) (state_in store) (unsure_in store) image)) (sym c.close.ensures.disk)
-    (stops_now g.D.Disk.tells g.D.Disk.story store birth entries is)
+    subst (λ d. OnTrue g.D.Disk.meaning.tells ((image : Areas) → IsImage (g.D.Disk.meaning.story d) image → MayReopen (birth_in store) (rules_in store) (state_in store) (unsure_in store) image)) (sym c.close.ensures.disk)
+    (stops_now g.D.Disk.meaning store birth entries is)
