@@ -1,5 +1,5 @@
 -- What an opening finds on a disk that a journal has left, also behind a stop.
-use Rattle.std.proofs.Common.{◌≡◌, inl, inr, ⊎_elim, ◌⊎◌, ℕ, List, [], ◌∷◌, ◌++◌, sym, subst, cond, Option, Some, None, Ok, Err, append_assoc}
+use Rattle.std.proofs.Common.{◌≡◌, inl, inr, ⊎_elim, ℕ, List, [], ◌∷◌, ◌++◌, sym, subst, cond, Option, Some, None, Ok, Err, append_assoc}
 use Rattle.std.specs.Bool.{OnTrue}
 use Rattle.std.proofs.lemmas.Bool.{OnTrue_at, OnTrue_from}
 use Rattle.std.proofs.lemmas.List.{append-nil}
@@ -9,14 +9,9 @@ use Rattle.store_disk.specs.Story.{IsImage}
 use Rattle.store_disk.specs.declared.area.Area.{Area}
 use Rattle.store_disk.specs.declared.disk.DiskFailed.{DiskFailed}
 use Rattle.store_journal.specs.Area.{born, stands}
-use Rattle.store_journal.specs.Journal.{IsJournal, HoldsSame, MayHold, Appends, Repairs, OpensAs, area_of, disk_of, is_unsure, reserved}
+use Rattle.store_journal.specs.Journal.{IsJournal, AreFound, HandsOn, HoldsSame, MayHold, Appends, Repairs, OpensAs, area_of, disk_of, is_unsure, reserved}
 use Rattle.store_journal.specs.declared.journal.Journal.{Journal}
 use Rattle.store_journal.proofs.Kept.{holds}
-
--- these payloads, or where one is unsure, maybe that one behind them
-abbrev pub AreFound : List (List ℕ) → Option (List ℕ) → List (List ℕ) → Type 0
-AreFound payloads None left = left ≡ payloads
-AreFound payloads (Some unsure) left = (left ≡ payloads) ⊎ (left ≡ payloads ++ unsure ∷ [])
 
 -- an opening of areas that stand for a store finds its birth and its payloads
 opens_born : (areas : Areas) (birth new now : ℕ) (area found : Area) (payloads left : List (List ℕ)) → stands areas ≡ born birth area payloads → OpensAs (stands areas) new now found left → (now ≡ birth) × (left ≡ payloads)
@@ -31,6 +26,12 @@ opens_held areas birth new now area found payloads left (Some unsure) is opens =
     is
 
 module _ {D : Type 0} (meaning : Meaning D) where
+  -- an opening of what is left of a journal's disk hands out what it holds
+  pub hands_on : (journal : Journal D) (birth : ℕ) (payloads : List (List ℕ)) (unsure : Option (List ℕ)) → IsJournal meaning journal birth payloads unsure
+      → OnTrue meaning.tells (HandsOn (meaning.story (disk_of journal)) birth payloads unsure)
+  hands_on journal birth payloads unsure is = OnTrue_from meaning.tells _ (λ told image stopped other now found left opens.
+      opens_held image birth other now (area_of journal) found payloads left unsure (OnTrue_at told (holds meaning journal birth payloads unsure is) image stopped) opens)
+
   -- What became of a journal in which nothing was unsure: payloads were handed out or reserved, which keeps what it holds; payloads were
   -- appended, of which these with Ok, in order; and what was unsure was repaired, or still is.
   pub data Becomes : Journal D → Journal D → List (List ℕ) → Option (List ℕ) → Type 0 where
@@ -63,5 +64,4 @@ module _ {D : Type 0} (meaning : Meaning D) where
       → (image : Areas) → OnTrue meaning.tells (IsImage (meaning.story (disk_of new)) image) → (other now : ℕ) (found : Area) (left : List (List ℕ)) → OnTrue meaning.tells (OpensAs (stands image) other now found left)
       → OnTrue meaning.tells ((now ≡ birth) × AreFound (payloads ++ more) unsure left)
   reopened {new = new} {more = more} {unsure = unsure} became birth payloads is image stopped other now found left opens = OnTrue_from meaning.tells _ (λ told.
-      opens_held image birth other now (area_of new) found (payloads ++ more) left unsure
-      (OnTrue_at told (holds meaning new birth (payloads ++ more) unsure (becomes_more became birth payloads is)) image (OnTrue_at told stopped)) (OnTrue_at told opens))
+      OnTrue_at told (hands_on new birth (payloads ++ more) unsure (becomes_more became birth payloads is)) image (OnTrue_at told stopped) other now found left (OnTrue_at told opens))

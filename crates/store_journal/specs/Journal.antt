@@ -93,19 +93,31 @@ module _ {D : Type 0} where
     pub failed : OnErr result (IsJournal meaning new birth payloads unsure)
     pub stops : OnTrue meaning.tells (LeavesOnly (meaning.story (disk_of old)) (meaning.story (disk_of new)) (MayHold birth (area_of old) payloads unsure))
 
--- areas stand for what others stood for, or a store that wasn't born is born, without payloads
-abbrev pub IsLike : Standing → Standing → Type 0
-IsLike before now = (now ≡ before) ⊎ ((before ≡ unborn) × (birth : ℕ) × (area : Area) × (now ≡ born birth area []))
+-- areas stand for what others stood for, or a store that wasn't born is born with this birth, without payloads
+abbrev pub IsLike : (birth : ℕ) → Standing → Standing → Type 0
+IsLike birth before now = (now ≡ before) ⊎ ((before ≡ unborn) × (area : Area) × (now ≡ born birth area []))
 
--- A stop in an opening leaves what a stop before it left, but for a birth.
-abbrev pub OpensOver : Story → Story → Type 0
-OpensOver old new = LeavesOnly old new (λ image. (before : Areas) × IsImage old before × IsLike (stands before) (stands image))
+-- A stop in an opening leaves what a stop before it left, but for a birth with this number.
+abbrev pub OpensOver : (birth : ℕ) → Story → Story → Type 0
+OpensOver birth old new = LeavesOnly old new (λ image. (before : Areas) × IsImage old before × IsLike birth (stands before) (stands image))
 
 -- what an opening of areas that stand so finds: the birth, the area and the payloads, none where the store is born with this birth
 abbrev pub OpensAs : Standing → ℕ → ℕ → Area → List (List ℕ) → Type 0
 OpensAs unborn birth now area payloads = (now ≡ birth) × (area ≡ A) × (payloads ≡ [])
 OpensAs (born old stood_in stood) birth now area payloads = (now ≡ old) × (area ≡ stood_in) × (payloads ≡ stood)
 OpensAs (foreign stood_in at) birth now area payloads = ⊥
+
+-- these payloads, or where one is unsure, maybe that one behind them
+abbrev pub AreFound : List (List ℕ) → Option (List ℕ) → List (List ℕ) → Type 0
+AreFound payloads None left = left ≡ payloads
+AreFound payloads (Some unsure) left = (left ≡ payloads) ⊎ (left ≡ payloads ++ unsure ∷ [])
+
+-- Whatever is left of a disk, also by a stop, an opening of it finds this birth and these payloads, or where one is unsure, maybe that one
+-- more, last.
+abbrev pub HandsOn : Story → (birth : ℕ) → List (List ℕ) → (unsure : Option (List ℕ)) → Type 0
+HandsOn story birth payloads unsure =
+    (image : Areas) → IsImage story image → (other now : ℕ) (area : Area) (left : List (List ℕ)) → OpensAs (stands image) other now area left
+    → (now ≡ birth) × AreFound payloads unsure left
 
 -- an opening answers Foreign only where the areas are, in that area at that place
 abbrev pub IsCause : Areas → OpenFault → Type 0

@@ -21,7 +21,7 @@ fn refuse_more<D: Disk>(disk: &mut D, area: Area) -> Result<(), OpenFault>
     ensures small { OnOk result (OnTrue D.meaning.tells (length (octets_of (reads (D.meaning.story disk.old)) area) ≤ 17)) }
     ensures cause { IfErr result (IsMore D.meaning.tells (reads (D.meaning.story disk.old)) area) }
     ensures kept { D.meaning.story disk.new ≡ D.meaning.story disk.old }
-    ensures spares { Spares 1 (D.meaning.calls disk.old) (D.meaning.calls disk.new) (D.meaning.faults disk.old) (D.meaning.faults disk.new) result }
+    ensures spares { Spares D.meaning 1 disk.old disk.new result }
 {
     if disk.size(area)? > FRESH as u64 {
         return Err(OpenFault::Foreign {
@@ -37,7 +37,7 @@ fn write_fresh<D: Disk>(disk: &mut D, birth: u64) -> Result<(), DiskFailed>
     requires small { OnTrue D.meaning.tells (AreSmall most_unpicked (D.meaning.story disk.old)) }
     ensures kept { OnOk result (OnTrue D.meaning.tells (IsKeptBy (D.meaning.story disk.new) Area.A birth [] None)) }
     ensures stops { OnTrue D.meaning.tells (LeavesOnly (D.meaning.story disk.old) (D.meaning.story disk.new) (IsUnbornOrFresh birth)) }
-    ensures spends { Spends 6 (D.meaning.calls disk.old) (D.meaning.calls disk.new) (D.meaning.faults disk.old) (D.meaning.faults disk.new) result }
+    ensures spends { Spends D.meaning 6 disk.old disk.new result }
 {
     let octets = fresh_area(birth);
     write_synced(disk, Area::A, 0, &octets)?;
@@ -51,11 +51,11 @@ pub fn bear<D: Disk>(disk: &mut D, birth: u64) -> Result<(), OpenFault>
     requires rest { OnTrue D.meaning.tells (AreAtRest (D.meaning.story disk.old)) }
     ensures unborn { OnOk result (OnTrue D.meaning.tells (stands (reads (D.meaning.story disk.old)) ≡ unborn)) }
     ensures kept { OnOk result (OnTrue D.meaning.tells (IsKeptBy (D.meaning.story disk.new) Area.A birth [] None)) }
-    ensures stops { OnTrue D.meaning.tells (OpensOver (D.meaning.story disk.old) (D.meaning.story disk.new)) }
+    ensures stops { OnTrue D.meaning.tells (OpensOver birth (D.meaning.story disk.old) (D.meaning.story disk.new)) }
     ensures cause { IfErr result (λ fault. OnTrue D.meaning.tells (IsCause (reads (D.meaning.story disk.old)) fault)) }
     ensures untouched { OnTrue D.meaning.tells (IsUntouched (reads (D.meaning.story disk.old)) (reads (D.meaning.story disk.new))) }
     ensures unchanged { IfErr result (λ fault. OnTrue D.meaning.tells (IsUnlessDisk fault (D.meaning.story disk.new ≡ D.meaning.story disk.old))) }
-    ensures spares { Spares 8 (D.meaning.calls disk.old) (D.meaning.calls disk.new) (D.meaning.faults disk.old) (D.meaning.faults disk.new) result }
+    ensures spares { Spares D.meaning 8 disk.old disk.new result }
 {
     refuse_more(disk, Area::A)?;
     refuse_more(disk, Area::B)?;

@@ -20,7 +20,7 @@ pub fn write_synced<D: Disk>(
     requires inside { OnTrue D.meaning.tells (IsWithin (reads (D.meaning.story disk.old)) area at) }
     ensures written { OnTrue D.meaning.tells (WritesSynced area at octets.now result (D.meaning.story disk.old) (D.meaning.story disk.new)) }
     ensures end { OnOk result (at + length octets.now ≤ last_end) }
-    ensures spends { Spends 2 (D.meaning.calls disk.old) (D.meaning.calls disk.new) (D.meaning.faults disk.old) (D.meaning.faults disk.new) result }
+    ensures spends { Spends D.meaning 2 disk.old disk.new result }
 {
     disk.write_at(area, at, octets)?;
     disk.sync(area)

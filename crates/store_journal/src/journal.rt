@@ -5,7 +5,7 @@ ghost use Rattle.std.specs.Bool.{OnTrue};
 ghost use Rattle.kn_base.specs.Count.{Rose};
 ghost use Rattle.store_disk.specs.Story.{reads};
 ghost use Rattle.store_journal.specs.Area.{IsPayload, stands, units};
-ghost use Rattle.store_journal.specs.Journal.{Appends, HoldsSame, IsHandedOut, IsJournal, IsKept, OpensOver, Repairs, area_of, birth_of, disk_of, gate_of, is_unsure, left, next_gate, reserved, Hands, MovesOn, OpensAs, IsCause, IsUnlessDisk, IsUntouched};
+ghost use Rattle.store_journal.specs.Journal.{Appends, HandsOn, HoldsSame, IsHandedOut, IsJournal, IsKept, OpensOver, Repairs, area_of, birth_of, disk_of, gate_of, is_unsure, left, next_gate, reserved, Hands, MovesOn, OpensAs, IsCause, IsUnlessDisk, IsUntouched};
 
 use crate::OpenFault;
 use crate::commit::write_synced;
@@ -48,8 +48,8 @@ impl<D: Disk> Journal<D> {
             (OpensAs (stands (reads (D.meaning.story disk))) birth (birth_of journal) (area_of journal) (left journal))) }
         ensures gate { IfOk result (λ journal. gate_of journal ≡ 16) }
         ensures next_gate { IfOk result (λ journal. next_gate journal ≡ 16) }
-        ensures stops { IfOk result (λ journal. OnTrue D.meaning.tells (OpensOver (D.meaning.story disk) (D.meaning.story (disk_of journal)))) }
-        ensures stops_back { IfErr result (λ fault. OnTrue D.meaning.tells (OpensOver (D.meaning.story disk) (D.meaning.story fault.0))) }
+        ensures stops { IfOk result (λ journal. OnTrue D.meaning.tells (OpensOver birth (D.meaning.story disk) (D.meaning.story (disk_of journal)))) }
+        ensures stops_back { IfErr result (λ fault. OnTrue D.meaning.tells (OpensOver birth (D.meaning.story disk) (D.meaning.story fault.0))) }
         ensures untouched { IfOk result (λ journal. OnTrue D.meaning.tells (IsUntouched (reads (D.meaning.story disk)) (reads (D.meaning.story (disk_of journal))))) }
         ensures untouched_back { IfErr result (λ fault. OnTrue D.meaning.tells (IsUntouched (reads (D.meaning.story disk)) (reads (D.meaning.story fault.0)))) }
         ensures unchanged { IfErr result (λ fault. OnTrue D.meaning.tells (IsUnlessDisk fault.1 (reads (D.meaning.story fault.0) ≡ reads (D.meaning.story disk)))) }
@@ -211,6 +211,7 @@ impl<D: Disk> Journal<D> {
         ensures repaired { (birth : ℕ) (payloads : List (List ℕ)) (unsure : Option (List ℕ)) → IsJournal D.meaning self.old birth payloads unsure →
             Repairs D.meaning self.old self.new result birth payloads unsure }
         ensures kept { IsKept D.meaning self.new }
+        ensures idle { is_unsure self.old ≡ false → self.new ≡ self.old }
         ensures sure { OnOk result (is_unsure self.new ≡ false) }
         ensures still { OnErr result (is_unsure self.new ≡ is_unsure self.old) }
         ensures left { left self.new ≡ left self.old }
@@ -232,9 +233,12 @@ impl<D: Disk> Journal<D> {
         Ok(())
     }
 
-    /// Ends the journal and gives its disk back.
+    /// Ends the journal and gives its disk back. Whatever a stop leaves of it from then on, an opening of that hands out what the journal held,
+    /// under its birth.
     pub fn close(self) -> D
         ensures disk { result ≡ disk_of self }
+        ensures hands_on { (birth : ℕ) (payloads : List (List ℕ)) (unsure : Option (List ℕ)) → IsJournal D.meaning self birth payloads unsure
+            → OnTrue D.meaning.tells (HandsOn (D.meaning.story result) birth payloads unsure) }
     {
         let Journal {
             alloc: _,

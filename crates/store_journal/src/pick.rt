@@ -20,7 +20,7 @@ pub fn read_pick<D: Disk>(disk: &mut D) -> Result<Option<Area>, OpenFault>
     ensures pick { IfOk result (λ pick. OnTrue D.meaning.tells (pick ≡ picked (reads (D.meaning.story disk.old)).pick)) }
     ensures err { IfErr result (λ fault. fault ≡ OpenFault.Disk) }
     ensures kept { D.meaning.story disk.new ≡ D.meaning.story disk.old }
-    ensures spares { Spares 2 (D.meaning.calls disk.old) (D.meaning.calls disk.new) (D.meaning.faults disk.old) (D.meaning.faults disk.new) result }
+    ensures spares { Spares D.meaning 2 disk.old disk.new result }
 {
     if disk.size(Area::Pick)? == 0 {
         return Ok(None);

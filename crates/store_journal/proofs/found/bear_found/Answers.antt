@@ -11,7 +11,7 @@ use Rattle.store_journal.proofs.Bearing.{told_same}
 use Rattle.store_journal.proofs.found.bear_found.Goals as goal
 
 pub returns-in_err-extend_from_slice-clause-stops : goal.returns-in_err-extend_from_slice-clause-stops
-returns-in_err-extend_from_slice-clause-stops g c = told_same g.D.Disk.meaning.tells _ _ refl
+returns-in_err-extend_from_slice-clause-stops g c = told_same g.D.Disk.meaning.tells c.args.birth _ _ refl
 
 pub returns-clause-found : goal.returns-clause-found
 returns-clause-found g c =
