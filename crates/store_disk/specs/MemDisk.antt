@@ -1,6 +1,7 @@
 -- What a disk in memory holds and has counted, and the story that its log tells.
-use Rattle.std.specs.Prelude.{ℕ, true, List, [], ◌∷◌, ◌++◌, ◌+◌, take, drop, reverse}
-use Rattle.kn_base.specs.Calls.{Calls}
+use Rattle.std.specs.Prelude.{◌⊎◌, ℕ, true, List, [], ◌∷◌, ◌++◌, ◌+◌, take, drop, reverse}
+use Rattle.kn_base.specs.Calls.{Calls, IsFailing}
+use Rattle.kn_base.specs.Count.{Rose}
 use Rattle.store_disk.specs.Disk.{Areas, octets_of, with_octets}
 use Rattle.store_disk.specs.Meaning.{Meaning}
 use Rattle.store_disk.specs.Story.{Act, Story, wrote, cut, synced, tell, untold}
@@ -26,9 +27,13 @@ mem_calls disk = disk.calls
 abbrev pub mem_faults : MemDisk → ℕ
 mem_faults disk = disk.faults
 
--- how many of them found no memory for their entry in the log
+-- how many of them found no memory
 abbrev pub mem_starved : MemDisk → ℕ
 mem_starved disk = disk.starved
+
+-- a call failed because it was to fail, or found no memory
+abbrev pub HasCause : (old new : MemDisk) → Type 0
+HasCause old new = IsFailing (mem_calls old) ⊎ Rose (mem_starved old) (mem_starved new)
 
 -- the octets of an area before a deed, from those behind it
 abbrev pub octets_before : Deed → List ℕ → List ℕ

@@ -15,8 +15,8 @@ use kn_base::{MemCalls, Memory, Octets, raised};
 use std::alloc::Global;
 
 /// Three areas in memory. The calls whose numbers, from 0, are in the list of failing ones fail, and leave what the
-/// areas hold. Want of memory is a counted fault. A write or a cut that failed is told as one that failed, unless it found no memory
-/// for its entry in the log.
+/// areas hold. Want of memory is a counted fault, and nothing else but these and
+/// `LAST_END` makes a call fail. A write or a cut that failed is told as one that failed, unless it found no memory for its entry in the log.
 #[derive(Drop)]
 pub struct MemDisk {
     alloc: Global,
@@ -184,6 +184,7 @@ impl MemDisk {
     fn note(&mut self, entry: Entry) -> Result<(), Memory>
         ensures ok { OnOk result (mem_log self.new ≡ entry ∷ mem_log self.old) }
         ensures err { OnErr result (mem_log self.new ≡ mem_log self.old) }
+        ensures unstarved { OnOk result (mem_starved self.new ≡ mem_starved self.old) }
         ensures starved { OnErr result (Rose (mem_starved self.old) (mem_starved self.new)) }
         ensures areas { mem_areas self.new ≡ mem_areas self.old }
         ensures calls { mem_calls self.new ≡ mem_calls self.old }
@@ -196,6 +197,7 @@ impl MemDisk {
     // Counts want of memory where an entry isn't noted.
     fn noted(&mut self, done: bool) -> Result<(), Memory>
         ensures done { IsOk result ↔ (done ≡ true) }
+        ensures unstarved { OnOk result (mem_starved self.new ≡ mem_starved self.old) }
         ensures starved { OnErr result (Rose (mem_starved self.old) (mem_starved self.new)) }
         ensures log { mem_log self.new ≡ mem_log self.old }
         ensures areas { mem_areas self.new ≡ mem_areas self.old }
@@ -214,6 +216,7 @@ impl MemDisk {
         requires { IsWithin (mem_areas self.old) area at }
         ensures ok { OnOk result (mem_log self.new ≡ write_entry call area at count (mem_areas self.old) ∷ mem_log self.old) }
         ensures err { OnErr result (mem_log self.new ≡ mem_log self.old) }
+        ensures unstarved { OnOk result (mem_starved self.new ≡ mem_starved self.old) }
         ensures starved { OnErr result (Rose (mem_starved self.old) (mem_starved self.new)) }
         ensures areas { mem_areas self.new ≡ mem_areas self.old }
         ensures calls { mem_calls self.new ≡ mem_calls self.old }
@@ -233,6 +236,7 @@ impl MemDisk {
         requires { IsWithin (mem_areas self.old) area left }
         ensures ok { OnOk result (mem_log self.new ≡ cut_entry call area size left (mem_areas self.old) ∷ mem_log self.old) }
         ensures err { OnErr result (mem_log self.new ≡ mem_log self.old) }
+        ensures unstarved { OnOk result (mem_starved self.new ≡ mem_starved self.old) }
         ensures starved { OnErr result (Rose (mem_starved self.old) (mem_starved self.new)) }
         ensures areas { mem_areas self.new ≡ mem_areas self.old }
         ensures calls { mem_calls self.new ≡ mem_calls self.old }
@@ -252,6 +256,7 @@ impl MemDisk {
         requires { IsWithin (mem_areas self.old) area at }
         ensures ok { OnOk result (mem_areas self.new ≡ after_write area at bytes.now (mem_areas self.old)) }
         ensures err { OnErr result (mem_areas self.new ≡ mem_areas self.old) }
+        ensures starved { mem_starved self.new ≡ mem_starved self.old }
         ensures log { mem_log self.new ≡ mem_log self.old }
         ensures calls { mem_calls self.new ≡ mem_calls self.old }
         ensures faults { mem_faults self.new ≡ mem_faults self.old }
@@ -316,6 +321,7 @@ impl MemDisk {
         ensures told { OnErr result (FailsToWrite area at bytes.now (mem_story self.old) (mem_story self.new) ⊎ Rose (mem_starved self.old) (mem_starved self.new)) }
         ensures noted { NotesOne false call (mem_log self.old) (mem_log self.new) }
         ensures due { OnOk result (fails ≡ false) }
+        ensures cause { OnErr result ((fails ≡ true) ⊎ Rose (mem_starved self.old) (mem_starved self.new)) }
         ensures unwritten { OnErr result (mem_areas self.new ≡ mem_areas self.old) }
         ensures calls { mem_calls self.new ≡ mem_calls self.old }
         ensures faults { mem_faults self.new ≡ mem_faults self.old }
@@ -328,7 +334,10 @@ impl MemDisk {
         }
         match self.put(area, at, bytes) {
             Ok(()) => Ok(()),
-            Err(Memory) => Err(DiskFailed),
+            Err(Memory) => {
+                self.starved = raised(self.starved);
+                Err(DiskFailed)
+            }
         }
     }
 
@@ -339,6 +348,7 @@ impl MemDisk {
         ensures told { OnErr result (FailsToCut area size (mem_story self.old) (mem_story self.new) ⊎ Rose (mem_starved self.old) (mem_starved self.new)) }
         ensures noted { NotesOne false call (mem_log self.old) (mem_log self.new) }
         ensures due { OnOk result (fails ≡ false) }
+        ensures cause { OnErr result ((fails ≡ true) ⊎ Rose (mem_starved self.old) (mem_starved self.new)) }
         ensures uncut { OnErr result (mem_areas self.new ≡ mem_areas self.old) }
         ensures calls { mem_calls self.new ≡ mem_calls self.old }
         ensures faults { mem_faults self.new ≡ mem_faults self.old }
@@ -359,6 +369,7 @@ impl MemDisk {
         ensures synced { Syncs area result (mem_story self.old) (mem_story self.new) }
         ensures noted { NotesOne true call (mem_log self.old) (mem_log self.new) }
         ensures due { OnOk result (fails ≡ false) }
+        ensures cause { OnErr result ((fails ≡ true) ⊎ Rose (mem_starved self.old) (mem_starved self.new)) }
         ensures areas { mem_areas self.new ≡ mem_areas self.old }
         ensures calls { mem_calls self.new ≡ mem_calls self.old }
         ensures faults { mem_faults self.new ≡ mem_faults self.old }
@@ -429,7 +440,7 @@ impl Disk for MemDisk {
     ghost use Rattle.std.specs.Prelude.{◌<◌, ◌⊎◌, true};
     ghost use Rattle.store_disk.specs.Stop.{NumbersCall};
     ghost use Rattle.store_disk.specs.Disk.{Reads, octets_of};
-    ghost use Rattle.store_disk.specs.MemDisk.{mem_areas, mem_calls, mem_meaning, mem_starved, mem_story};
+    ghost use Rattle.store_disk.specs.MemDisk.{HasCause, mem_areas, mem_calls, mem_meaning, mem_starved, mem_story};
     ghost use Rattle.kn_base.specs.Count.{Rose};
     ghost use Rattle.store_disk.specs.Story.{Cuts, FailsToCut, FailsToWrite, Syncs, Writes, reads};
 
@@ -473,6 +484,7 @@ impl Disk for MemDisk {
         ensures told { OnErr result (FailsToWrite area at bytes.now (mem_story self.old) (mem_story self.new) ⊎ Rose (mem_starved self.old) (mem_starved self.new)) }
         ensures unwritten { OnErr result (mem_areas self.new ≡ mem_areas self.old) }
         ensures due { OnOk result (¬ IsFailing (mem_calls self.old)) }
+        ensures cause { OnErr result ((last_end < at + length bytes.now) ⊎ HasCause self.old self.new) }
         ensures calls { mem_calls self.new ≡ one_more (mem_calls self.old) }
         ensures numbered { NumbersCall false self.old self.new }
     {
@@ -490,6 +502,7 @@ impl Disk for MemDisk {
         ensures told { OnErr result (FailsToCut area size (mem_story self.old) (mem_story self.new) ⊎ Rose (mem_starved self.old) (mem_starved self.new)) }
         ensures uncut { OnErr result (mem_areas self.new ≡ mem_areas self.old) }
         ensures due { OnOk result (¬ IsFailing (mem_calls self.old)) }
+        ensures cause { OnErr result (HasCause self.old self.new) }
         ensures calls { mem_calls self.new ≡ one_more (mem_calls self.old) }
         ensures numbered { NumbersCall false self.old self.new }
     {
@@ -503,6 +516,7 @@ impl Disk for MemDisk {
         ensures synced { Syncs area result (mem_story self.old) (mem_story self.new) }
         ensures areas { mem_areas self.new ≡ mem_areas self.old }
         ensures due { OnOk result (¬ IsFailing (mem_calls self.old)) }
+        ensures cause { OnErr result (HasCause self.old self.new) }
         ensures calls { mem_calls self.new ≡ one_more (mem_calls self.old) }
         ensures numbered { NumbersCall true self.old self.new }
     {
