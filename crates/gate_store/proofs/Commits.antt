@@ -1,5 +1,5 @@
 -- What deeds that lead from one store to another did, all together.
-use Rattle.std.proofs.Common.{◌≡◌, ℕ, Bool, List, [], ◌∷◌, ◌++◌, length, ap, sym, ◌∙◌, append_assoc, subst}
+use Rattle.std.proofs.Common.{◌≡◌, ℕ, List, [], ◌∷◌, ◌++◌, length, ap, sym, ◌∙◌, append_assoc, subst}
 use Rattle.std.proofs.lemmas.List.{append-nil}
 use Rattle.gate_entries.specs.declared.recorded.Recorded.{Recorded}
 use Rattle.gate_model.specs.Acceptor.{Deed}
@@ -8,7 +8,6 @@ use Rattle.gate_model.specs.State.{State}
 use Rattle.gate_model.proofs.SettlingLaws.{settled_since_birth}
 use Rattle.route_rules.specs.declared.rules.Rules.{Rules}
 use Rattle.store_disk.specs.Meaning.{Meaning}
-use Rattle.store_disk.specs.Story.{Story}
 use Rattle.gate_store.specs.Deeds.{Leads, IsReason, AreReasoned, MayBeUnsure, entry_of, entries_of, state_behind, done_of}
 use Rattle.gate_store.specs.Entries.{state_of}
 use Rattle.gate_store.specs.Store.{IsStore, birth_in, rules_in, state_in, unsure_in}

@@ -1,6 +1,6 @@
 -- An entry that is put last in the journal of a store: what is unsure is taken back, then it is appended.
-use Rattle.std.proofs.Common.{◌≡◌, ◌≤◌, ◌+◌, ◌<◌, ◌⊎◌, inl, inr, ℕ, Bool, true, false, List, [], ◌∷◌, ◌++◌, Option, Some, None, Result, Ok, Err, refl, ap, sym, ◌∙◌, subst}
-use Rattle.std.specs.Prelude.{option_map, if◌then◌else◌}
+use Rattle.std.proofs.Common.{arith, ◌≡◌, ◌≤◌, ◌+◌, ◌<◌, ◌⊎◌, inl, inr, ℕ, Bool, true, false, List, [], ◌∷◌, ◌++◌, Option, Some, None, Result, Ok, Err, refl, ap, sym, ◌∙◌, subst}
+use Rattle.std.specs.Prelude.{option_map, is_some, if◌then◌else◌}
 use Rattle.std.specs.Bool.{OnTrue}
 use Rattle.std.proofs.lemmas.List.{append-nil}
 use Rattle.kn_base.specs.Count.{Rose}
@@ -18,10 +18,11 @@ use Rattle.gate_model.specs.declared.reply.Reply.{Reply}
 use Rattle.route_rules.specs.declared.rules.Rules.{Rules}
 use Rattle.store_disk.specs.Disk.{Areas}
 use Rattle.store_disk.specs.Meaning.{Meaning}
-use Rattle.store_disk.specs.Story.{Story, LeavesOnly}
+use Rattle.store_disk.specs.Story.{LeavesOnly}
 use Rattle.store_disk.specs.declared.disk.DiskFailed.{DiskFailed}
-use Rattle.store_journal.specs.Journal.{IsJournal, IsHandedOut, Appends, Repairs, MayHold, area_of, is_unsure, left, reserved}
+use Rattle.store_journal.specs.Journal.{IsJournal, IsHandedOut, Appends, Repairs, MayHold, area_of, disk_of, is_unsure, left, reserved}
 use Rattle.store_journal.specs.declared.journal.Journal.{Journal}
+use Rattle.gate_store.specs.Deeds.{repair_calls}
 use Rattle.gate_store.specs.Entries.{payloads, start, state_of}
 use Rattle.gate_store.specs.Reopening.{ReopensTo, MayReopen, MayReopenIn}
 use Rattle.gate_store.specs.Store.{IsStore, IsOpen, disk_in, birth_in, rules_in, state_in, unsure_in}
@@ -63,10 +64,21 @@ module _ {D : Type 0} (meaning : Meaning D) where
       (record { spelled = refl; sound = sound-settle (state_in store) kept may.sound; few = few })
 
 module _ {D : Type 0} (meaning : Meaning D) (old new : Store D) where
+  -- a repair makes no call where nothing is unsure
+  pub repairs_few : IsOpen meaning old → (is_unsure old.journal ≡ false → new.journal ≡ old.journal) → meaning.calls (disk_in new) ≤ meaning.calls (disk_in old) + 2
+      → meaning.calls (disk_in new) ≤ meaning.calls (disk_in old) + repair_calls (unsure_in old)
+  repairs_few is_open idle two = by_unsure (unsure_in old) refl
+    where
+      by_unsure : (unsure : Option Recorded) → unsure_in old ≡ unsure → meaning.calls (disk_in new) ≤ meaning.calls (disk_in old) + repair_calls unsure
+      by_unsure None none =
+          let same = idle (is_open.2.journal.doubt ∙ ap (λ (u : Option Recorded). is_some (option_map entry_octets u)) none) in
+          omega (arith, ap (λ (j : Journal D). meaning.calls (disk_of j)) same)
+      by_unsure (Some kept) some = two
+
   -- what was unsure is taken back, or the disk failed
   module _ (is_open : IsOpen meaning old) (gate : new.gate ≡ old.gate) (born : birth_in new ≡ birth_in old) (stays : left new.journal ≡ left old.journal)
       (same_reserved : reserved new.journal ≡ reserved old.journal) (kept : meaning.faults (disk_in old) ≤ meaning.faults (disk_in new))
-      (bounded : meaning.calls (disk_in new) ≤ meaning.calls (disk_in old) + 2) where
+      (bounded : meaning.calls (disk_in new) ≤ meaning.calls (disk_in old) + repair_calls (unsure_in old)) where
     store_now : (birth : ℕ) (entries : List Recorded) (unsure : Option Recorded) → IsStore meaning old birth entries → unsure_in new ≡ unsure
         → IsJournal meaning new.journal birth (payloads entries) (option_map entry_octets unsure) → UnsureComesNext birth (rules_in old) entries unsure
         → IsStore meaning new birth entries

@@ -1,5 +1,5 @@
 -- What became of the messages of a store.
-use Rattle.std.proofs.Common.{◌≡◌, refl, ℕ, Bool, List, [], ◌∷◌, ◌++◌, map, length, sym, ap, ◌∙◌, subst}
+use Rattle.std.proofs.Common.{◌≡◌, refl, ℕ, List, [], ◌∷◌, ◌++◌, map, length, sym, ap, ◌∙◌, subst}
 use Rattle.std.proofs.lemmas.List.{map-append}
 use Rattle.std.proofs.lemmas.List.Sums.{fold-append}
 use Rattle.gate_entries.specs.declared.recorded.Recorded.{Recorded}
@@ -16,7 +16,6 @@ use Rattle.gate_model.proofs.FatesLaws.{fates_since_birth}
 use Rattle.gate_model.proofs.OrderLemmas.{IsInOrder-after, IsInOrder-empty}
 use Rattle.gate_model.proofs.SettlingLaws.{totals-settle}
 use Rattle.store_disk.specs.Meaning.{Meaning}
-use Rattle.store_disk.specs.Story.{Story}
 use Rattle.gate_store.specs.Entries.{start, state_of, AreInTurn}
 use Rattle.gate_store.specs.Store.{IsStore, rules_in, state_in}
 use Rattle.gate_store.specs.declared.store.Store.{Store}

@@ -1,24 +1,30 @@
 -- A store stays open, under its rules, whatever a call did; and a link of one that was opened may come up.
-use Rattle.std.proofs.Common.{◌≡◌, ℕ, zero, suc, ◌<◌, arith, Bool, true, false, List, [], ◌∷◌, ◌++◌, length, map, slice_get, Option, Some, None, Result, Ok, Err, refl, sym, ◌∙◌, ap, subst, inl, inr}
+use Rattle.std.specs.Prelude.{if◌then◌else◌}
+use Rattle.std.proofs.Common.{◌≡◌, ◌≤◌, ◌+◌, ℕ, zero, suc, ◌<◌, arith, Bool, true, false, List, [], ◌∷◌, ◌++◌, length, map, slice_get, Option, Some, None, Result, Ok, Err, refl, sym, ◌∙◌, ap, subst, inl, inr}
 use Rattle.kn_base.specs.declared.memory.Memory.{Memory}
 use Rattle.gate_entries.specs.declared.passing.Passing.{Passing}
-use Rattle.gate_entries.specs.declared.passing.Passing.TheVariants.{Up, Took, TookJob}
+use Rattle.gate_entries.specs.declared.passing.Passing.TheVariants.{Up, Took, TookArrival, TookJob}
 use Rattle.gate_entries.specs.declared.recorded.Recorded.{Recorded}
 use Rattle.gate_model.specs.Lawful.{MayPass, is_expired}
-use Rattle.gate_model.specs.Routing.{next, next_job}
+use Rattle.gate_model.specs.Routing.{next, next_arrival, next_job}
 use Rattle.gate_model.specs.Settling.{settle}
 use Rattle.gate_model.specs.State.{State}
 use Rattle.gate_model.specs.declared.reply.Refusal.{Refusal}
 use Rattle.gate_model.specs.declared.reply.Reply.{Reply}
 use Rattle.route_rules.specs.declared.rules.Rules.{Rules}
+use Rattle.sms_record.specs.declared.sms.Sms.{Sms}
 use Rattle.store_disk.specs.Meaning.{Meaning}
-use Rattle.store_disk.specs.Story.{Story}
-use Rattle.gate_store.specs.Deeds.{Performs, Passes, Takes, TakesNext, TakesMessage, TakesNextJob, TakesJob, TakesThisJob, Withholds, given_up, put_behind}
+use Rattle.gate_store.specs.Deeds.{Performs, Passes, Takes, TakesNext, TakesMessage, TakesNextArrival, TakesArrival, TakesThisArrival, TakesNextJob, TakesJob, TakesThisJob, Withholds, given_up, is_untried, put_behind, repair_calls}
 use Rattle.gate_store.specs.Entries.{state_of}
-use Rattle.gate_store.specs.Store.{IsOpen, IsOpened, birth_in, rules_in, state_in}
+use Rattle.gate_store.specs.Store.{IsOpen, IsOpened, birth_in, disk_in, rules_in, state_in, unsure_in}
 use Rattle.gate_store.specs.declared.store.Store.{Store}
 use Rattle.gate_store.specs.declared.taken.Taken.{Taken}
 use Rattle.gate_store.specs.declared.taken.Taken.TheVariants as taken
+
+few_calls : (unsure : Option Recorded) (untried : Bool) → (if untried then 0 else repair_calls unsure + 4) ≤ 6
+few_calls unsure true = omega arith
+few_calls None false = omega arith
+few_calls (Some kept) false = omega arith
 
 module _ {D : Type 0} (meaning : Meaning D) where
   -- it is open still, under the same rules
@@ -85,6 +91,26 @@ module _ {D : Type 0} (meaning : Meaning D) where
   pub takes_job_keeps : (old new : Store D) (outcome : Result (Option (ℕ × List ℕ × ℕ)) Memory) → IsOpen meaning old
       → TakesNextJob meaning old outcome new → StaysOpen old new
   takes_job_keeps old new outcome held takes = takes_that_job_keeps old new (next_job (state_in old)) outcome held takes
+
+  takes_this_arrival_keeps : (old new : Store D) (arrival : ℕ) (outcome : Result (Option (ℕ × Sms)) Memory) → IsOpen meaning old
+      → TakesThisArrival meaning old arrival outcome new → StaysOpen old new
+  takes_this_arrival_keeps old new arrival (Ok None) held takes = absurd takes
+  takes_this_arrival_keeps old new arrival (Ok (Some taken)) held takes = passes_keeps old new (TookArrival arrival) held takes.2
+  takes_this_arrival_keeps old new arrival (Err memory) held takes = same_keeps old new held takes
+
+  takes_that_arrival_keeps : (old new : Store D) (arrival : Option ℕ) (outcome : Result (Option (ℕ × Sms)) Memory) → IsOpen meaning old
+      → TakesArrival meaning old arrival outcome new → StaysOpen old new
+  takes_that_arrival_keeps old new None outcome held takes = same_keeps old new held takes.1
+  takes_that_arrival_keeps old new (Some arrival) outcome held takes = takes_this_arrival_keeps old new arrival outcome held takes
+
+  pub takes_arrival_keeps : (old new : Store D) (outcome : Result (Option (ℕ × Sms)) Memory) → IsOpen meaning old
+      → TakesNextArrival meaning old outcome new → StaysOpen old new
+  takes_arrival_keeps old new outcome held takes = takes_that_arrival_keeps old new (next_arrival (state_in old)) outcome held takes
+
+  -- an entry needs six disk calls at most
+  pub six_calls : (old new : Store D) (kept : Recorded) (outcome : Result Reply Refusal) → Performs meaning old kept outcome new
+      → meaning.calls (disk_in new) ≤ meaning.calls (disk_in old) + 6
+  six_calls old new kept outcome does_ = let few = few_calls (unsure_in old) (is_untried outcome) in let bounded = does_.bounded in omega arith
 
   -- a store that was opened is settled
   pub opened_settled : (disk : D) (rules : Rules) (birth : ℕ) (store : Store D) → IsOpened meaning disk rules birth store

@@ -1,5 +1,5 @@
 -- Loading a store: the entries that were handed out so far.
-use Rattle.std.proofs.Common.{◌≡◌, ℕ, ◌+◌, length, Bool, Option, Some, None, Ok, List, [], ◌∷◌, ◌++◌, refl, ap, sym, ◌∙◌, append_assoc, subst, arith}
+use Rattle.std.proofs.Common.{◌≡◌, ℕ, ◌+◌, length, Option, Some, None, Ok, List, [], ◌∷◌, ◌++◌, refl, ap, sym, ◌∙◌, append_assoc, subst, arith}
 use Rattle.std.proofs.lemmas.List.{append-nil}
 use Rattle.gate_entries.specs.declared.recorded.Recorded.{Recorded}
 use Rattle.gate_entries.specs.Entry.{entry_octets}
@@ -12,7 +12,6 @@ use Rattle.gate_model.specs.State.{State}
 use Rattle.gate_model.specs.declared.loader.Loader.{Loader}
 use Rattle.route_rules.specs.declared.rules.Rules.{Rules}
 use Rattle.store_disk.specs.Meaning.{Meaning}
-use Rattle.store_disk.specs.Story.{Story}
 use Rattle.store_journal.specs.Area.{gate_place, unit}
 use Rattle.store_journal.proofs.Keeping.{gate_more}
 use Rattle.store_journal.specs.Journal.{IsJournal, HoldsSame, Hands, MovesOn, disk_of, area_of, birth_of, left, gate_of, next_gate}

@@ -1,5 +1,5 @@
 -- What a disk stood for, and what a store that was opened on it holds.
-use Rattle.std.proofs.Common.{◌≡◌, ◌≤◌, ◌+◌, inl, inr, ℕ, Bool, List, [], ◌∷◌, ◌++◌, refl, ap, sym, ◌∙◌, subst, arith}
+use Rattle.std.proofs.Common.{◌≡◌, ◌≤◌, ◌+◌, inl, inr, ℕ, List, [], ◌∷◌, ◌++◌, refl, ap, sym, ◌∙◌, subst, arith}
 use Rattle.std.specs.Bool.{OnTrue}
 use Rattle.kn_base.specs.Count.{Rose}
 use Rattle.gate_entries.specs.declared.recorded.Recorded.{Recorded}
@@ -62,30 +62,30 @@ stands_foreign rules (foreign stood_in at_there) birth now found area there at i
 -- ---- what a stop in an opening leaves
 
 -- areas that stand for what others stood for reopen to what these reopen to
-like_reopens : (rules : Rules) (before image : Areas) → IsLike (stands before) (stands image) → (state : State) → Reopens rules before state → Reopens rules image state
-like_reopens rules before image (inl same) state r = record {
+like_reopens : (rules : Rules) (birth : ℕ) (before image : Areas) → IsLike birth (stands before) (stands image) → (state : State) → Reopens rules before state → Reopens rules image state
+like_reopens rules birth before image (inl same) state r = record {
   birth = r.birth;
   entries = r.entries;
   stood = subst (λ s. StandsFor s r.birth r.entries) (sym same) r.stood;
   in_turn = r.in_turn;
   makes = r.makes;
 }
-like_reopens rules before image (inr new) state r =
+like_reopens rules birth before image (inr new) state r =
     let none : r.entries ≡ [] = subst (λ s. StandsFor s r.birth r.entries) new.0 r.stood in
     record {
-      birth = new.1;
+      birth = birth;
       entries = [];
-      stood = subst (λ s. StandsFor s new.1 []) (sym new.3) (refl, refl);
+      stood = subst (λ s. StandsFor s birth []) (sym new.2) (refl, refl);
       in_turn = tt;
       makes = r.makes ∙ ap (state_of r.birth rules) none;
     }
 
-pub opens_alike : (rules : Rules) (old new : Story) → OpensOver old new → ReopensAlike rules old new
-opens_alike rules old new opens = leaves_weaker old new _ _ (λ image x. (x.0, x.1, like_reopens rules x.0 image x.2)) opens
+pub opens_alike : (rules : Rules) (birth : ℕ) (old new : Story) → OpensOver birth old new → ReopensAlike rules old new
+opens_alike rules birth old new opens = leaves_weaker old new _ _ (λ image x. (x.0, x.1, like_reopens rules birth x.0 image x.2)) opens
 
 module _ {D : Type 0} (meaning : Meaning D) (disk : D) (rules : Rules) (birth : ℕ) (journal : Journal D) where
   module _ (stood : OnTrue meaning.tells (OpensAs (stands (reads (meaning.story disk))) birth (birth_of journal) (area_of journal) (left journal)))
-      (stops : OnTrue meaning.tells (OpensOver (meaning.story disk) (meaning.story (disk_of journal)))) (unfailed : meaning.faults (disk_of journal) ≡ meaning.faults disk)
+      (stops : OnTrue meaning.tells (OpensOver birth (meaning.story disk) (meaning.story (disk_of journal)))) (unfailed : meaning.faults (disk_of journal) ≡ meaning.faults disk)
       (bounded : meaning.calls (disk_of journal) ≤ meaning.calls disk + 13) where
     -- a journal that was opened, whose entries were loaded, is an opened store
     pub opened_by : (store : Store D) → Loads meaning rules journal store → IsOpened meaning disk rules birth store
@@ -101,7 +101,7 @@ module _ {D : Type 0} (meaning : Meaning D) (disk : D) (rules : Rules) (birth : 
       state = loads.state ∙ ap (λ b. state_of b rules loads.entries) (sym loads.born);
       sure = loads.sure;
       stops = subst (λ (d : D). OnTrue meaning.tells (ReopensAlike rules (meaning.story disk) (meaning.story d))) (sym loads.disk)
-          (told_weaker meaning.tells _ _ (opens_alike rules (meaning.story disk) (meaning.story (disk_of journal))) stops);
+          (told_weaker meaning.tells _ _ (opens_alike rules birth (meaning.story disk) (meaning.story (disk_of journal))) stops);
       unfailed = ap meaning.faults loads.disk ∙ unfailed;
       bounded = let same : meaning.calls (disk_in store) ≡ meaning.calls (disk_of journal) = ap meaning.calls loads.disk in omega (arith, bounded, same);
     }
@@ -123,12 +123,12 @@ module _ {D : Type 0} (meaning : Meaning D) (disk : D) (rules : Rules) (birth : 
       cause = unloaded_by back fault none;
       untouched = subst (λ (d : D). OnTrue meaning.tells (IsUntouched (reads (meaning.story disk)) (reads (meaning.story d)))) (sym none.same) untouched;
       stops = subst (λ (d : D). OnTrue meaning.tells (ReopensAlike rules (meaning.story disk) (meaning.story d))) (sym none.same)
-          (told_weaker meaning.tells _ _ (opens_alike rules (meaning.story disk) (meaning.story (disk_of journal))) stops);
+          (told_weaker meaning.tells _ _ (opens_alike rules birth (meaning.story disk) (meaning.story (disk_of journal))) stops);
       kept = let same : meaning.faults back ≡ meaning.faults disk = ap meaning.faults none.same ∙ unfailed in omega arith;
       bounded = let same : meaning.calls back ≡ meaning.calls (disk_of journal) = ap meaning.calls none.same in omega (arith, bounded, same);
     }
 
-module _ {D : Type 0} (meaning : Meaning D) (disk : D) (rules : Rules) (back : D) where
+module _ {D : Type 0} (meaning : Meaning D) (disk : D) (rules : Rules) (birth : ℕ) (back : D) where
   -- why no journal was opened
   unopened_by : (fault : OpenFault) → OnTrue meaning.tells (IsCause (reads (meaning.story disk)) fault) → IsUnlessDisk fault (meaning.faults back ≡ meaning.faults disk)
       → (fault ≡ journal_is.Disk → Rose (meaning.faults disk) (meaning.faults back)) → IsUnopened meaning disk rules back (same_fault fault)
@@ -140,12 +140,12 @@ module _ {D : Type 0} (meaning : Meaning D) (disk : D) (rules : Rules) (back : D
   -- no journal was opened
   pub unopened : (fault : OpenFault) (told : StoreFault) → told ≡ same_fault fault → OnTrue meaning.tells (IsCause (reads (meaning.story disk)) fault)
       → IsUnlessDisk fault (meaning.faults back ≡ meaning.faults disk) → (fault ≡ journal_is.Disk → Rose (meaning.faults disk) (meaning.faults back)) → meaning.faults disk ≤ meaning.faults back
-      → OnTrue meaning.tells (IsUntouched (reads (meaning.story disk)) (reads (meaning.story back))) → OnTrue meaning.tells (OpensOver (meaning.story disk) (meaning.story back))
+      → OnTrue meaning.tells (IsUntouched (reads (meaning.story disk)) (reads (meaning.story back))) → OnTrue meaning.tells (OpensOver birth (meaning.story disk) (meaning.story back))
       → meaning.calls back ≤ meaning.calls disk + 13 → GivesBack meaning disk rules back told
   unopened fault told is cause spared failed kept untouched stops bounded = record {
     cause = subst (λ f. IsUnopened meaning disk rules back f) (sym is) (unopened_by fault cause spared failed);
     untouched = untouched;
-    stops = told_weaker meaning.tells _ _ (opens_alike rules (meaning.story disk) (meaning.story back)) stops;
+    stops = told_weaker meaning.tells _ _ (opens_alike rules birth (meaning.story disk) (meaning.story back)) stops;
     kept = kept;
     bounded = omega (arith, bounded);
   }

@@ -1,12 +1,11 @@
 -- A store on which an entry passes, and from which a link takes a message.
-use Rattle.std.proofs.Common.{◌≡◌, ℕ, Bool, ap, sym, ◌∙◌, subst}
+use Rattle.std.proofs.Common.{◌≡◌, ap, sym, ◌∙◌, subst}
 use Rattle.gate_entries.specs.declared.passing.Passing.{Passing}
 use Rattle.gate_model.specs.Fold.{passes}
 use Rattle.gate_model.specs.Gate.{IsGate, model_of, rules_of}
 use Rattle.gate_model.specs.Settling.{settle}
 use Rattle.gate_model.proofs.SettlingLaws.{settle-passes}
 use Rattle.store_disk.specs.Meaning.{Meaning}
-use Rattle.store_disk.specs.Story.{Story}
 use Rattle.store_journal.specs.Journal.{HoldsSame, left}
 use Rattle.store_journal.specs.declared.journal.Journal.{Journal}
 use Rattle.gate_store.specs.Deeds.{Passes}
@@ -24,6 +23,7 @@ module _ {D : Type 0} (meaning : Meaning D) (old new : Store D) where
         ruled = ruled;
         born = ap birth_in same;
         state = state;
+        settled = ap settle state ∙ settle-passes (state_in old) brief;
         unsure = ap unsure_in same;
         disk = ap disk_in same;
         holds = holds_on meaning old new

@@ -1,5 +1,5 @@
 -- A store on which an entry is performed, by how far that came.
-use Rattle.std.proofs.Common.{◌≡◌, ◌≤◌, ◌+◌, inl, ℕ, Bool, false, List, Option, Some, None, IfSome, Result, Err, refl, ap, sym, ◌∙◌, subst, arith}
+use Rattle.std.proofs.Common.{◌≡◌, ◌≤◌, ◌+◌, inl, ℕ, false, List, Option, Some, None, IfSome, Result, Err, refl, ap, sym, ◌∙◌, subst, arith}
 use Rattle.std.specs.Prelude.{option_map}
 use Rattle.std.specs.Bool.{OnTrue}
 use Rattle.std.proofs.lemmas.List.{append-nil}
@@ -16,18 +16,18 @@ use Rattle.gate_model.specs.declared.reply.Reply.{Reply}
 use Rattle.route_rules.specs.declared.rules.Rules.{Rules}
 use Rattle.store_disk.specs.Disk.{Areas}
 use Rattle.store_disk.specs.Meaning.{Meaning}
-use Rattle.store_disk.specs.Story.{Story, IsImage, LeavesOnly}
+use Rattle.store_disk.specs.Story.{IsImage, LeavesOnly}
 use Rattle.store_journal.specs.Journal.{IsJournal, IsHandedOut, HoldsSame, MayHold, area_of, left}
 use Rattle.store_journal.specs.declared.journal.Journal.{Journal}
 use Rattle.store_journal.proofs.Kept.{holds}
-use Rattle.gate_store.specs.Deeds.{Performs, LeavesUnsure, IsReason, CountsFault, is_by_disk, is_disk, state_behind}
+use Rattle.gate_store.specs.Deeds.{Performs, LeavesUnsure, IsReason, CountsFault, is_by_disk, is_disk, is_untried, most_calls, state_behind}
 use Rattle.gate_store.specs.Entries.{payloads, start, state_of, AreInTurn}
 use Rattle.gate_store.specs.Reopening.{MayReopen, MayReopenIn}
 use Rattle.gate_store.specs.Store.{IsStore, IsOpen, disk_in, birth_in, rules_in, state_in, unsure_in}
 use Rattle.gate_store.specs.declared.store.Store.{Store}
 use Rattle.gate_store.proofs.Refusals.{reason_named}
 use Rattle.gate_store.proofs.Reopened.{may_reopen}
-use Rattle.gate_store.proofs.Told.{told_weaker, told_leaves_none}
+use Rattle.gate_store.proofs.Told.{told_anyhow, told_weaker, told_leaves_none}
 
 -- an entry that is unsure may come next behind entries, under rules
 abbrev pub UnsureComesNext : (birth : ℕ) → Rules → List Recorded → Option Recorded → Type 0
@@ -97,6 +97,8 @@ module _ {D : Type 0} (meaning : Meaning D) where
         stops = subst (λ (d : D). OnTrue meaning.tells (LeavesOnly (meaning.story (disk_in old)) (meaning.story d) (MayReopenIn (birth_in old) (rules_in old) (state_in old) (unsure_in old) kept))) (sym disk) none;
         counted = subst (λ b. CountsFault b (meaning.faults (disk_in old)) (meaning.faults (disk_in new))) (sym other) (ap meaning.faults disk);
         bounded = let same : meaning.calls (disk_in new) ≡ meaning.calls (disk_in old) = ap meaning.calls disk in omega arith;
+        settled = ap settle state;
+        untried = told_anyhow (is_untried {T = Reply} (Err why)) (disk_in new ≡ disk_in old) disk;
       }
 
   -- an entry that the model refuses
@@ -141,5 +143,8 @@ module _ {D : Type 0} (meaning : Meaning D) where
             (subst (λ (r : Rules). P (birth_in old) r (state_in mid) (unsure_in mid) (disk_in mid)) ruled
             (subst (λ b. P b (rules_in mid) (state_in mid) (unsure_in mid) (disk_in mid)) born done.stops))));
         counted = subst (λ (d : D). CountsFault (is_by_disk outcome) (meaning.faults d) (meaning.faults (disk_in new))) disk done.counted;
-        bounded = subst (λ (d : D). meaning.calls (disk_in new) ≤ meaning.calls d + 6) disk done.bounded;
+        bounded = subst (λ (d : D). meaning.calls (disk_in new) ≤ meaning.calls d + most_calls (unsure_in old) outcome) disk
+            (subst (λ (u : Option Recorded). meaning.calls (disk_in new) ≤ meaning.calls (disk_in mid) + most_calls u outcome) unsure done.bounded);
+        settled = done.settled ∙ ap (λ b. state_behind b (settle (state_in mid)) kept outcome) born ∙ ap (λ (s : State). state_behind (birth_in old) (settle s) kept outcome) state;
+        untried = told_weaker (is_untried outcome) _ _ (λ same. same ∙ disk) done.untried;
       }

@@ -1,12 +1,12 @@
 -- What a stop leaves of a store at rest stands for what it holds.
-use Rattle.std.proofs.Common.{◌≡◌, ⊎_elim, inl, inr, ℕ, Bool, List, [], ◌∷◌, ◌++◌, Option, Some, None, refl, sym, subst}
+use Rattle.std.proofs.Common.{◌≡◌, ⊎_elim, inl, inr, ℕ, List, [], ◌∷◌, ◌++◌, Option, Some, None, refl, sym, subst}
 use Rattle.std.specs.Prelude.{option_map}
 use Rattle.std.specs.Bool.{OnTrue}
 use Rattle.gate_entries.specs.declared.recorded.Recorded.{Recorded}
 use Rattle.gate_entries.specs.Entry.{entry_octets}
 use Rattle.store_disk.specs.Disk.{Areas}
 use Rattle.store_disk.specs.Meaning.{Meaning}
-use Rattle.store_disk.specs.Story.{Story, IsImage}
+use Rattle.store_disk.specs.Story.{IsImage}
 use Rattle.store_disk.specs.declared.area.Area.{Area}
 use Rattle.store_journal.specs.Area.{born, stands}
 use Rattle.store_journal.specs.Journal.{MayHold, area_of}

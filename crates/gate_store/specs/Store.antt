@@ -1,17 +1,19 @@
 -- What a store holds, and what came of opening one.
-use Rattle.std.specs.Prelude.{◌≡◌, ◌≤◌, ◌+◌, ℕ, Bool, List, Option, None, IfSome, option_map}
+use Rattle.std.specs.Prelude.{◌≡◌, ◌⊎◌, ◌≤◌, ◌+◌, ℕ, List, Option, Some, None, IfSome, option_map}
 use Rattle.std.specs.Bool.{OnTrue}
 use Rattle.kn_base.specs.Count.{Rose}
 use Rattle.gate_entries.specs.declared.recorded.Recorded.{Recorded}
 use Rattle.gate_entries.specs.Entry.{entry_octets}
+use Rattle.gate_model.specs.Fold.{does, recorded}
 use Rattle.gate_model.specs.Gate.{IsGate, model_of, rules_of}
 use Rattle.gate_model.specs.Loading.{ComesNext}
 use Rattle.gate_model.specs.Settling.{settle}
 use Rattle.gate_model.specs.State.{State}
 use Rattle.route_rules.specs.declared.rules.Rules.{Rules}
 use Rattle.store_journal.specs.Area.{stands, unborn}
+use Rattle.store_disk.specs.Disk.{Areas}
 use Rattle.store_disk.specs.Meaning.{Meaning}
-use Rattle.store_disk.specs.Story.{Story, reads}
+use Rattle.store_disk.specs.Story.{reads}
 use Rattle.store_journal.specs.Journal.{IsJournal, IsHandedOut, IsUntouched, disk_of, birth_of as birth_in_journal}
 use Rattle.gate_store.specs.Entries.{payloads, start, state_of, AreInTurn, StandsFor, IsForeign}
 use Rattle.gate_store.specs.Reopening.{ReopensAlike}
@@ -80,3 +82,13 @@ module _ {D : Type 0} where
     pub stops : OnTrue meaning.tells (ReopensAlike rules (meaning.story disk) (meaning.story back))
     pub kept : meaning.faults disk ≤ meaning.faults back
     pub bounded : meaning.calls back ≤ meaning.calls disk + 20
+
+  -- a store that is opened under these rules on a disk which reads as these areas holds what is left of a state
+  abbrev pub HoldsLeft : Meaning D → Rules → State → Areas → Type 0
+  HoldsLeft meaning rules state areas =
+      (disk : D) (birth : ℕ) (store : Store D) → reads (meaning.story disk) ≡ areas → IsOpened meaning disk rules birth store → state_in store ≡ settle state
+
+  -- it does, or, where an entry is unsure, it holds what the state is with it
+  abbrev pub MayHoldLeft : Meaning D → (birth : ℕ) → Rules → State → (unsure : Option Recorded) → Areas → Type 0
+  MayHoldLeft meaning birth rules state None areas = HoldsLeft meaning rules state areas
+  MayHoldLeft meaning birth rules state (Some unsure) areas = HoldsLeft meaning rules state areas ⊎ HoldsLeft meaning rules (does birth state (recorded unsure)) areas

@@ -1,5 +1,5 @@
 -- The steps of a store: loading it, and recording an entry. No public clause but the premise of `perform` cites these.
-use Rattle.std.specs.Prelude.{◌≡◌, ◌⊎◌, ℕ, ◌≤◌, ◌+◌, Bool, List, [], ◌∷◌, ◌++◌, length, Some, None, Result, OnOk, OnErr, IfOk, is_ok, if◌then◌else◌}
+use Rattle.std.specs.Prelude.{◌≡◌, ◌⊎◌, ℕ, ◌≤◌, ◌+◌, List, [], ◌∷◌, ◌++◌, length, Some, None, Result, OnOk, OnErr, IfOk, is_ok, if◌then◌else◌}
 use Rattle.std.specs.Bool.{OnTrue}
 use Rattle.kn_base.specs.Count.{Rose}
 use Rattle.gate_entries.specs.declared.recorded.Recorded.{Recorded}
@@ -10,10 +10,11 @@ use Rattle.gate_model.specs.Replies.{reply_to}
 use Rattle.gate_model.specs.declared.reply.Reply.{Reply}
 use Rattle.route_rules.specs.declared.rules.Rules.{Rules}
 use Rattle.store_disk.specs.Meaning.{Meaning}
-use Rattle.store_disk.specs.Story.{Story, LeavesOnly}
+use Rattle.store_disk.specs.Story.{LeavesOnly}
 use Rattle.store_disk.specs.declared.disk.DiskFailed.{DiskFailed}
 use Rattle.store_journal.specs.Journal.{disk_of, area_of, birth_of, left, reserved}
 use Rattle.store_journal.specs.declared.journal.Journal.{Journal}
+use Rattle.gate_store.specs.Deeds.{repair_calls}
 use Rattle.gate_store.specs.Entries.{payloads, state_of, StopsAt}
 use Rattle.gate_store.specs.Reopening.{MayReopen, MayReopenIn}
 use Rattle.gate_store.specs.Store.{IsStore, disk_in, birth_in, rules_in, state_in, unsure_in}
@@ -76,7 +77,7 @@ module _ {D : Type 0} (meaning : Meaning D) where
     pub unfailed : OnOk result (meaning.faults (disk_in new) ≡ meaning.faults (disk_in old))
     pub failed : OnErr result (Rose (meaning.faults (disk_in old)) (meaning.faults (disk_in new)))
     pub kept : meaning.faults (disk_in old) ≤ meaning.faults (disk_in new)
-    pub bounded : meaning.calls (disk_in new) ≤ meaning.calls (disk_in old) + 2
+    pub bounded : meaning.calls (disk_in new) ≤ meaning.calls (disk_in old) + repair_calls (unsure_in old)
 
   -- An entry was put last in the journal and done, or the disk failed in at most so many calls.
   pub record Commits (most : ℕ) (old : Store D) (entry : Recorded) (outcome : Result Reply DiskFailed) (new : Store D) : Type 0 where

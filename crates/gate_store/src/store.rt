@@ -12,11 +12,11 @@ ghost use Rattle.gate_model.specs.Lawful.{refusal, most_entries, MayPass};
 ghost use Rattle.gate_model.specs.State.{totals_of};
 ghost use Rattle.store_disk.specs.Disk.{Areas};
 ghost use Rattle.store_disk.specs.Story.{IsImage};
-ghost use Rattle.store_journal.specs.Journal.{reserved};
-ghost use Rattle.gate_store.specs.Deeds.{Performs, Passes};
+ghost use Rattle.store_journal.specs.Journal.{OpensOver, reserved};
+ghost use Rattle.gate_store.specs.Deeds.{Performs, Passes, repair_calls};
 ghost use Rattle.gate_store.specs.Entries.{start, state_of};
 ghost use Rattle.gate_store.specs.Reopening.{MayReopen, MayStandFor};
-ghost use Rattle.gate_store.specs.Store.{IsStore, IsOpen, IsOpened, GivesBack, disk_in, birth_in, rules_in, state_in, unsure_in};
+ghost use Rattle.gate_store.specs.Store.{IsStore, IsOpen, MayHoldLeft, IsOpened, GivesBack, disk_in, birth_in, rules_in, state_in, unsure_in};
 ghost use Rattle.gate_store.specs.StoreSteps.{MayRecord, Reserves, Settles, Commits};
 
 mod entries;
@@ -48,7 +48,8 @@ impl<D: Disk> Store<D> {
     /// how many messages may wait in it.
     ///
     /// `Foreign` exactly where what the disk holds is no store, with the first place that doesn't fit; `Disk` only where a disk call failed,
-    /// `Memory` where there was none. Each fault gives the disk back; nothing that was stored is lost.
+    /// `Memory` where there was none. Each fault gives the disk back; nothing that was stored is lost. A stop on the way leaves what was stored, or
+    /// a store that was born with this birth.
     pub fn open(
         alloc: Global,
         disk: D,
@@ -58,6 +59,8 @@ impl<D: Disk> Store<D> {
         requires few_links { length rules.links < 2 ^ 32 }
         ensures ok { IfOk result (IsOpened D.meaning disk rules birth) }
         ensures err { IfErr result (λ fault. GivesBack D.meaning disk rules fault.0 fault.1) }
+        ensures births { IfOk result (λ store. OnTrue D.meaning.tells (OpensOver birth (D.meaning.story disk) (D.meaning.story (disk_in store)))) }
+        ensures births_back { IfErr result (λ fault. OnTrue D.meaning.tells (OpensOver birth (D.meaning.story disk) (D.meaning.story fault.0))) }
     {
         match Journal::open(alloc, disk, birth) {
             Ok(journal) => load(alloc, rules, journal),
@@ -113,7 +116,8 @@ impl<D: Disk> Store<D> {
     /// Records an entry on the disk, and does it. An entry that is unsure is taken back first.
     ///
     /// `NoRoute` and `Full` exactly where the model refuses it so, in this order; `Memory` where there was none; `Disk` only where a disk call
-    /// failed. Only an entry that was done is kept, but that one refused with `Disk` may be unsure then. Six disk calls at most.
+    /// failed. Only an entry that was done is kept, but that one refused with `Disk` may be unsure then. A refusal but `Disk` leaves the disk as it was; else
+    /// there are four disk calls at most, and two more where an entry was unsure.
     pub fn perform(&mut self, entry: Recorded) -> Result<Reply, Refusal>
         requires kept { IsOpen D.meaning self.old }
         requires may { MayRecord self.old entry }
@@ -191,7 +195,7 @@ impl<D: Disk> Store<D> {
         requires born { birth_of ready ≡ birth_in self.old }
         requires may { MayRecord self.old (prepared ready) }
         requires few { (state_in self.old).entries < most_entries }
-        ensures { Commits D.meaning 6 self.old (prepared ready) result self.new }
+        ensures { Commits D.meaning (repair_calls (unsure_in self.old) + 4) self.old (prepared ready) result self.new }
     {
         match self.repair() {
             Ok(()) => self.append(ready),
@@ -231,13 +235,15 @@ impl<D: Disk> Store<D> {
     }
 
     /// Ends the store and gives its disk back. Whatever a stop leaves of it from then on reopens to what is left of the state, or, where an
-    /// entry is unsure, to what the state is with it.
+    /// entry is unsure, to what the state is with it: whoever opens it under the same rules has that.
     pub fn close(self) -> D
         ensures disk { result ≡ disk_in self }
         ensures stands { (birth : ℕ) (entries : List Recorded) → IsStore D.meaning self birth entries
             → OnTrue D.meaning.tells ((image : Areas) → IsImage (D.meaning.story result) image → MayStandFor birth entries (unsure_in self) image) }
         ensures stops { (birth : ℕ) (entries : List Recorded) → IsStore D.meaning self birth entries
             → OnTrue D.meaning.tells ((image : Areas) → IsImage (D.meaning.story result) image → MayReopen (birth_in self) (rules_in self) (state_in self) (unsure_in self) image) }
+        ensures left { (birth : ℕ) (entries : List Recorded) → IsStore D.meaning self birth entries
+            → OnTrue D.meaning.tells ((image : Areas) → IsImage (D.meaning.story result) image → MayHoldLeft D.meaning (birth_in self) (rules_in self) (state_in self) (unsure_in self) image) }
     {
         let Store {
             alloc: _,

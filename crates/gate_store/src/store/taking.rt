@@ -1,17 +1,17 @@
-//! The next message of a link, and the next job.
+//! The next message of a link, the next job, and the next arrival.
 
 ghost use Rattle.std.specs.Prelude.{◌≡◌, ◌<◌, ◌^◌, true, false, Some};
 ghost use Rattle.gate_model.specs.Gate.{HaveIds};
 ghost use Rattle.gate_model.specs.Lawful.{is_expired};
-ghost use Rattle.gate_model.specs.Routing.{next, next_job};
-ghost use Rattle.gate_store.specs.Deeds.{Takes, TakesMessage, TakesNextJob, TakesThisJob};
+ghost use Rattle.gate_model.specs.Routing.{next, next_arrival, next_job};
+ghost use Rattle.gate_store.specs.Deeds.{Takes, TakesMessage, TakesNextArrival, TakesNextJob, TakesThisArrival, TakesThisJob};
 ghost use Rattle.gate_store.specs.Store.{IsOpen, rules_in, state_in};
 
 use crate::{Store, Taken};
 use gate_entries::{Cause, Passing, Recorded, Rejected};
 use gate_model::Refusal;
 use kn_base::{Memory, Octets};
-use sms_record::copy_sms;
+use sms_record::{Sms, copy_sms};
 use store_disk::Disk;
 
 impl<D: Disk> Store<D> {
@@ -105,5 +105,32 @@ impl<D: Disk> Store<D> {
         let tries = self.gate.tries(job);
         self.pass(Passing::TookJob { job });
         Ok(Some((job, url, tries)))
+    }
+
+    /// The next arrival, which is taken: its number, and the message that came from a centre.
+    ///
+    /// `None` exactly where none is free. It is the least number of these. `Memory`, and then nothing has changed. No disk call is made.
+    pub fn take_arrival(&mut self) -> Result<Option<(u64, Sms)>, Memory>
+        requires kept { IsOpen D.meaning self.old }
+        ensures { TakesNextArrival D.meaning self.old result self.new }
+    {
+        match self.gate.next_arrival() {
+            Some(arrival) => self.hand_on(arrival),
+            None => Ok(None),
+        }
+    }
+
+    // Hands out an arrival, which is taken.
+    fn hand_on(&mut self, arrival: u64) -> Result<Option<(u64, Sms)>, Memory>
+        requires kept { IsOpen D.meaning self.old }
+        requires next { next_arrival (state_in self.old) ≡ Some arrival }
+        ensures { TakesThisArrival D.meaning self.old arrival result self.new }
+    {
+        let Some(sms) = self.gate.arrival(arrival) else {
+            unreachable!();
+        };
+        let sms = copy_sms(self.alloc, sms)?;
+        self.pass(Passing::TookArrival { arrival });
+        Ok(Some((arrival, sms)))
     }
 }

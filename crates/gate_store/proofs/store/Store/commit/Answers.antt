@@ -1,10 +1,11 @@
-use Rattle.std.proofs.Common.{◌≡◌, ◌<◌, Ok, Err, None, Result, refl, ap, sym, subst}
+use Rattle.std.proofs.Common.{◌≡◌, ◌+◌, ◌<◌, Ok, Err, None, Result, refl, ap, sym, subst}
 use Rattle.gate_model.specs.Gate.{entry_of}
 use Rattle.gate_model.specs.Lawful.{refusal, most_entries}
 use Rattle.gate_model.proofs.RefusalLemmas.{few_where_unrefused}
 use Rattle.gate_model.specs.declared.reply.Refusal.TheVariants as refusal_is
 use Rattle.gate_model.specs.declared.reply.Reply.{Reply}
 use Rattle.store_disk.specs.declared.disk.DiskFailed.{DiskFailed}
+use Rattle.gate_store.specs.Deeds.{repair_calls}
 use Rattle.gate_store.specs.Store.{rules_in, state_in, unsure_in}
 use Rattle.gate_store.specs.StoreSteps.{Commits}
 use Rattle.gate_store.specs.declared.store.Store.{Store}
@@ -41,7 +42,7 @@ returns-in-Ok g c =
     let kept = entry_of c.args.ready in
     let r = c.reserve.ensures.reserves in
     let same = c.reserve.ensures.same in
-    let P : Result Reply DiskFailed → Type 0 = λ x. Commits meaning 6 mid kept x new in
+    let P : Result Reply DiskFailed → Type 0 = λ x. Commits meaning (repair_calls (unsure_in mid) + 4) mid kept x new in
     let Q : Store g.row.D.Denot → Type 0 = λ s. refusal (rules_in s) (state_in s) kept ≡ None in
     performed_on meaning old mid new kept (Ok c.in-Ok.reply) (ap rules_in same) r.born (ap state_in same) (ap unsure_in same) r.disk r.holds
     (performs_ok meaning mid mid new kept c.in-Ok.reply (subst Q (sym same) c.requires.taken) (subst P c.in-Ok.is c.repair_and_append.ensures))
@@ -55,7 +56,7 @@ returns-in-Err-repair_and_append g c =
     let kept = entry_of c.args.ready in
     let r = c.reserve.ensures.reserves in
     let same = c.reserve.ensures.same in
-    let P : Result Reply DiskFailed → Type 0 = λ x. Commits meaning 6 mid kept x new in
+    let P : Result Reply DiskFailed → Type 0 = λ x. Commits meaning (repair_calls (unsure_in mid) + 4) mid kept x new in
     let Q : Store g.row.D.Denot → Type 0 = λ s. refusal (rules_in s) (state_in s) kept ≡ None in
     performed_on meaning old mid new kept (Err refusal_is.Disk) (ap rules_in same) r.born (ap state_in same) (ap unsure_in same) r.disk r.holds
     (performs_err meaning mid mid new kept c.in-Err-repair_and_append.field-0 (subst Q (sym same) c.requires.taken) (subst P c.in-Err-repair_and_append.is c.repair_and_append.ensures))
