@@ -10,10 +10,8 @@ use Rattle.sms_record.specs.declared.sms.Sms.{Sms}
 use Rattle.dlr_table.specs.Reports.{oldest}
 use Rattle.dlr_table.specs.declared.awaited.Awaited.{Awaited}
 use Rattle.gate_entries.specs.Size.{parts_of}
-use Rattle.gate_entries.specs.declared.acked.Acked.{Acked}
 use Rattle.gate_entries.specs.declared.recorded.Recorded.{Recorded}
 use Rattle.gate_entries.specs.declared.recorded.Recorded.TheVariants as entry
-use Rattle.gate_entries.specs.declared.rejected.Rejected.{Rejected}
 use Rattle.gate_entries.specs.declared.reported.Reported.{Reported}
 use Rattle.report_urls.specs.Report.{acked_report, rejected_report}
 use Rattle.report_urls.specs.ReportUrl.{report_url}
@@ -386,11 +384,11 @@ module _ (birth : ℕ) (state : State) (history : List Recorded) (later : List (
       ++ numbered_from ((moves (entry.Reported reported) state).last_job + length (if_any url) + 1) later)) same.2
       ∙ ap (λ last. left_of history (map url_of (state.jobs ++ numbered_from (last + 1) (map new_job (if_any url))) ++ numbered_from (last + length (if_any url) + 1) later)) same.3
       ∙ ap (left_of history) (calls_urls state.jobs state.last_job url later)
-  jobs_next (entry.Called called) order suited =
-      left_ended called.job state.last_job history state.jobs later (held_below 1 (state.last_job + 1) called.job state.jobs order.jobs suited)
-  jobs_next (entry.CallDropped dropped) order suited =
-      left_ended dropped.job state.last_job history state.jobs later (held_below 1 (state.last_job + 1) dropped.job state.jobs order.jobs suited)
-  jobs_next other order suited = ap (left_of history) (calls_urls state.jobs state.last_job None later)
+  jobs_next (entry.Accept accept) order suited = ap (left_of history) (calls_urls state.jobs state.last_job None later)
+  jobs_next (entry.Arrived arrived) order suited = ap (left_of history) (calls_urls state.jobs state.last_job None later)
+  jobs_next (entry.Answered answered) order suited = ap (left_of history) (calls_urls state.jobs state.last_job None later)
+  jobs_next other order suited =
+      left_ended _ state.last_job history state.jobs later (held_below 1 (state.last_job + 1) _ state.jobs order.jobs suited)
 
 jobs_all : (birth : ℕ) (messages : List (ℕ × Sms)) (state : State) (history : List Recorded) → IsInOrder state → AreSound birth state (map recorded history)
     → Knows messages state history
