@@ -1,3 +1,5 @@
+pub mod Arrivals
+pub mod Closing
 pub mod Commits
 pub mod Committing
 pub mod Composing
