@@ -6,17 +6,22 @@ use Rattle.std.proofs.lemmas.List.{append-nil, length-replicate}
 use Rattle.sms_record.specs.declared.sms.Sms.{Sms}
 use Rattle.route_rules.specs.declared.rules.Rules.{Rules}
 use Rattle.gate_entries.specs.Limits.{most_messages}
+use Rattle.gate_model.specs.declared.gate.Gate.{Gate}
 use Rattle.gate_model.specs.declared.waiting.Waiting.{Waiting}
 use Rattle.gate_model.specs.Numbers.{Rise, value_under}
 use Rattle.gate_model.specs.declared.job.Job.{Job}
 use Rattle.gate_model.specs.State.{State, Lists, flight_of, flights, empty}
 use Rattle.gate_model.specs.Fold.{accepts, answers, arrives, calls, new_job, if_any, ends, leases, leases_arrival, counts_entry}
-use Rattle.gate_model.specs.Gate.{IsWhole, IsBounded}
+use Rattle.gate_model.specs.Gate.{IsGate, IsWhole, IsBounded}
 use Rattle.gate_model.specs.Lawful.{most_entries}
 use Rattle.gate_model.specs.Links.{raised, lowered}
 use Rattle.gate_model.proofs.FlightLemmas.{flights-ends, flights-returned, flights-taken, flights-accepts, flights-none, flight_of-le}
 use Rattle.gate_model.proofs.NumberLemmas.{Rise-without, Rise-with_change}
 use Rattle.gate_model.proofs.OrderLemmas.{IsInOrder-accepts, IsInOrder-calls, IsInOrder-empty, Rise-one_more, Rise-fold_without}
+
+-- what always holds of a gate, read from its type
+pub is_gate : (gate : Gate) → IsGate gate
+is_gate gate = gate.whole
 
 -- what is whole stays so under other names
 pub whole_as : (rules : Rules) (flight other_flight : List ℕ) (state other : State) → other_flight ≡ flight → other ≡ state → IsWhole rules flight state → IsWhole rules other_flight other

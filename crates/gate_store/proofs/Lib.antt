@@ -1,4 +1,3 @@
-pub mod Arrivals
 pub mod Closing
 pub mod Commits
 pub mod Committing

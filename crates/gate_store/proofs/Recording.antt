@@ -115,7 +115,7 @@ module _ {D : Type 0} (meaning : Meaning D) where
       let journal : new.journal ≡ old.journal = ap (λ (s : Store D). s.journal) same in
       holds_on meaning old new
       (subst (λ (j : Journal D). HoldsSame meaning old.journal j) (sym journal) (λ b p u held. held))
-      (ap left journal) keeps.rules (ap settle keeps.holds) (ap unsure_in same) (keeps.whole is.whole) birth entries is
+      (ap left journal) keeps.rules (ap settle keeps.holds) (ap unsure_in same) new.gate.whole birth entries is
 
   -- an entry for which there was no memory, by what the store became
   pub unremembered : (old new : Store D) (kept : Recorded) → IsOpen meaning old → new ≡ record old { gate = new.gate } → KeepsAll old.gate new.gate

@@ -12,7 +12,7 @@ returns-in-Ok g c =
     let a = c.append in
     let new = record old { journal = a.new.self; gate = c.apply.new.self } in
     commits_ok meaning old new (entry_of c.args.ready) c.requires.kept c.requires.sure c.requires.reserved c.requires.may c.requires.few
-    c.apply.ensures.rules a.ensures.birth a.ensures.ended c.apply.ensures.whole a.ensures.faults a.ensures.calls
+    c.apply.ensures.rules a.ensures.birth a.ensures.ended c.apply.new.self.whole a.ensures.faults a.ensures.calls
     tt c.apply.result (appends_as meaning old.journal a.new.self a.result (Ok tt) c.in-Ok.is a.ensures.appended) c.requires.sure (c.apply.ensures.state ∙ ap (λ b. does b (state_in old) (recorded (entry_of c.args.ready))) c.requires.born) c.apply.ensures.reply c.in-Ok.ensures.unfailed
 
 pub returns-then-unsure : goal.returns-then-unsure

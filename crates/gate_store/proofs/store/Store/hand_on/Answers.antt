@@ -1,7 +1,7 @@
 use Rattle.std.proofs.Common.{sym, ap, ◌∙◌, subst}
 use Rattle.std.specs.Prelude.{IsSome, option_copied}
 use Rattle.std.proofs.lemmas.Bool.{false≢true}
-use Rattle.gate_store.proofs.Arrivals.{next_arrival_is_held, next_arrival_may_be_taken}
+use Rattle.gate_model.proofs.TakeLemmas.{next_arrival_is_held, next_arrival_may_be_taken}
 use Rattle.gate_store.specs.Store.{rules_in, state_in}
 use Rattle.gate_store.proofs.store.Store.hand_on.Goals as goal
 

@@ -6,4 +6,4 @@ pub returns : goal.returns
 returns g c =
     let meaning = g.D.Disk.meaning in
     let old = c.args.self.now in
-    passed meaning old (record old { gate = c.pass.new.self }) c.args.entry refl c.pass.ensures.whole c.pass.ensures.rules c.pass.ensures.state
+    passed meaning old (record old { gate = c.pass.new.self }) c.args.entry refl c.pass.new.self.whole c.pass.ensures.rules c.pass.ensures.state

@@ -7,7 +7,7 @@ use Rattle.gate_store.proofs.store.entries.load.Goals as goal
 
 pub loop-payload-init : goal.loop-payload-init
 loop-payload-init g c =
-    HasLoaded-nil g.D.Disk.meaning c.args.rules c.args.journal c.in-Ok.loader c.requires.journal c.requires.gate c.in-Ok.ensures.ok c.in-Ok.ensures.rules c.in-Ok.ensures.state (c.in-Ok.ensures.birth ∙ c.birth.ensures)
+    HasLoaded-nil g.D.Disk.meaning c.args.rules c.args.journal c.in-Ok.loader c.requires.journal c.requires.gate c.in-Ok.loader.gate.whole c.in-Ok.ensures.rules c.in-Ok.ensures.state (c.in-Ok.ensures.birth ∙ c.birth.ensures)
 
 pub loop-payload-preserved : goal.loop-payload-preserved
 loop-payload-preserved g c =
@@ -19,7 +19,7 @@ loop-payload-preserved g c =
     c.next.ensures.same c.next.ensures.disk c.next.ensures.area
     (moved_on now next c.in-Ok-Some.field-0 payload c.in-Ok-Some.ensures.gate c.in-Ok-Some.field-0-is).1
     (subst (λ (p : List ℕ). IsTaken (birth_in c.loop-payload.loader) p (loaded c.loop-payload.loader) (loaded c.put.new.self)) c.as_slice.ensures c.in-Ok-put.ensures.taken)
-    c.put.ensures.whole c.put.ensures.rules c.put.ensures.birth
+    c.put.new.self.gate.whole c.put.ensures.rules c.put.ensures.birth
 
 pub returns-clause-ok : goal.returns-clause-ok
 returns-clause-ok g c =
