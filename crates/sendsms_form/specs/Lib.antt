@@ -1,4 +1,2 @@
-pub mod Form
-pub mod Pairs
-pub mod Ranges
-pub mod Variables
+
+pub mod Messages
