@@ -103,20 +103,32 @@ body_small Ucs2 body fits = omega (arith, fits)
 -- a part of a model to a receiver
 small_message : (user : User) (form : Form) (now : ℕ) (receiver : Address) (part : Part) → IsUser user → IsForm form → now < 2 ^ 37 → IsReceiver receiver
     → IsPart form.model.coding (length form.model.udh) (limits_of user form.model.coding) part → IsSmall (message form now receiver part)
-small_message form now receiver part u f below r p =
+small_message user form now receiver part u f below r p =
     let fits = p.fits in
     let octets : message_octets form.model.coding part.body ≤ 140 = omega (arith, fits) in
     let small = body_small form.model.coding part.body octets in
     let most : user.max_messages ≤ 100 = u.max_messages.1 in
     let few : part.total ≤ user.max_messages = p.few in
+    let i = f.model.sms in
     record {
-      is = record (f.model.sms) {
+      is = record {
+        sender = i.sender;
         receiver = receiver_is receiver r;
+        class = i.class;
         total = omega (arith, most, few);
         part = p.among;
+        mask = i.mask;
+        validity = i.validity;
+        deferred = i.deferred;
         time = below;
+        udh_len = i.udh_len;
+        udh = i.udh;
         body_len = omega (arith, small);
         body = p.coded;
+        smsc = i.smsc;
+        url = i.url;
+        account = i.account;
+        service = i.service;
       };
       udh = f.model.udh_len;
       body = small;
@@ -132,7 +144,7 @@ module _ (user : User) (form : Form) (now : ℕ) (u : IsUser user) (f : IsForm f
   small_parts receiver [] r h = All-nil IsSmall
   small_parts receiver (part ∷ parts) r h =
       All-cons IsSmall (message form now receiver part) (map (message form now receiver) parts)
-      (small_message form now receiver part u f below r h.0) (small_parts receiver parts r h.1)
+      (small_message user form now receiver part u f below r h.0) (small_parts receiver parts r h.1)
 
   small_all : (receivers : List Address) (parts : List Part) → All IsReceiver receivers → AllByRecursion IsOnePart parts → All IsSmall (to_each form now receivers parts)
   small_all [] parts r h = All-nil IsSmall

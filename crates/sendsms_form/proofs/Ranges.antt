@@ -254,6 +254,7 @@ smsc_is user given u = by_forced user.forced_smsc u.forced_smsc
     by_forced (octet ∷ octets) f = f
     by_forced [] f =
         behind_is _ _ (IsShort most_name) (IsShort most_name) (octets_is (codes "smsc") Smsc most_name given) (λ smsc s. first_is smsc s)
+
     first_is : (smsc : List ℕ) → IsShort most_name smsc → IsShort most_name (first_of smsc user.default_smsc)
     first_is [] s = u.default_smsc
     first_is (octet ∷ octets) s = s
@@ -264,7 +265,26 @@ delivery_is user given sms u h =
     behind_is _ _ (IsShort most_name) IsModel (smsc_is user given u) (λ smsc s.
     behind_is _ _ (λ n. n ≤ most_minutes) IsModel (number_is (codes "validity") Validity 1 most_minutes given) (λ validity v.
     behind_is _ _ (λ n. n ≤ most_minutes) IsModel (number_is (codes "deferred") Deferred 0 most_minutes given) (λ deferred d.
-    record { sms = record (h.sms) { smsc = s; validity = v; deferred = d }; sender = h.sender; udh_len = h.udh_len })))
+    let i = h.sms in
+    record { sms = record {
+        sender = i.sender;
+        receiver = i.receiver;
+        class = i.class;
+        total = i.total;
+        part = i.part;
+        mask = i.mask;
+        validity = v;
+        deferred = d;
+        time = i.time;
+        udh_len = i.udh_len;
+        udh = i.udh;
+        body_len = i.body_len;
+        body = i.body;
+        smsc = s;
+        url = i.url;
+        account = i.account;
+        service = i.service;
+      }; sender = h.sender; udh_len = h.udh_len })))
 
 mask_is : (mask : ℕ) (url : List ℕ) → mask ≤ most_mask → mask_by mask url ≤ most_mask
 mask_is mask [] small = omega arith
@@ -276,7 +296,26 @@ reports_is given sms h =
     behind_is _ _ (λ n. n ≤ most_mask) IsModel (number_is (codes "dlr-mask") DlrMask 0 most_mask given) (λ mask m.
     behind_is _ _ (IsShort most_url) IsModel (octets_is (codes "dlr-url") DlrUrl most_url given) (λ url l.
     behind_is _ _ (IsShort most_name) IsModel (octets_is (codes "account") Account most_name given) (λ account a.
-    record { sms = record (h.sms) { mask = mask_is mask url m; url = l; account = a }; sender = h.sender; udh_len = h.udh_len })))
+    let i = h.sms in
+    record { sms = record {
+        sender = i.sender;
+        receiver = i.receiver;
+        class = i.class;
+        total = i.total;
+        part = i.part;
+        mask = mask_is mask url m;
+        validity = i.validity;
+        deferred = i.deferred;
+        time = i.time;
+        udh_len = i.udh_len;
+        udh = i.udh;
+        body_len = i.body_len;
+        body = i.body;
+        smsc = i.smsc;
+        url = l;
+        account = a;
+        service = i.service;
+      }; sender = h.sender; udh_len = h.udh_len })))
 
 -- ---- all together
 

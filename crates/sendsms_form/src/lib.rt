@@ -15,13 +15,13 @@ mod form;
 mod header;
 mod limits;
 mod manner;
-mod messages;
+mod outgoing;
 mod pairs;
 mod reports;
 mod text;
 mod variable;
 
 pub use form::{Form, read_form};
-pub use messages::messages;
+pub use outgoing::messages;
 pub use pairs::{Pair, read_pairs, value};
 pub use text::body_of;

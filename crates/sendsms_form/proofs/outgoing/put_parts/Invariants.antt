@@ -1,6 +1,6 @@
 use Rattle.std.proofs.Common.{◌≡◌, ◌++◌, map, take}
 use Rattle.sendsms_form.specs.Messages.{message}
-use Rattle.sendsms_form.proofs.messages.put_parts.Given as goal
+use Rattle.sendsms_form.proofs.outgoing.put_parts.Given as goal
 
 -- the parts so far
 abbrev pub invariant-loop-part : goal.invariant-loop-part

@@ -3,7 +3,7 @@ use Rattle.gate_model.specs.Acceptor.{MayBeHanded}
 use Rattle.sms_record.specs.declared.sms.Sms.{Sms}
 use Rattle.sendsms_form.specs.Messages.{to_each}
 use Rattle.sendsms_form.proofs.Handed.{parts_handed, parts_timed}
-use Rattle.sendsms_form.proofs.messages.messages.Goals as goal
+use Rattle.sendsms_form.proofs.outgoing.messages.Goals as goal
 
 pub returns-clause-handed : goal.returns-clause-handed
 returns-clause-handed c =

@@ -1,6 +1,6 @@
 use Rattle.std.proofs.Common.{◌≡◌, take}
 use Rattle.sendsms_form.specs.Messages.{to_each}
-use Rattle.sendsms_form.proofs.messages.to_each.Given as goal
+use Rattle.sendsms_form.proofs.outgoing.to_each.Given as goal
 
 -- the parts to the receivers so far
 abbrev pub invariant-loop-receiver : goal.invariant-loop-receiver

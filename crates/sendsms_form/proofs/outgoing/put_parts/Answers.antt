@@ -2,7 +2,7 @@ use Rattle.std.proofs.Common.{[], ◌∷◌, ◌++◌, ◌∙◌, ap}
 use Rattle.sms_record.specs.declared.sms.Sms.{Sms}
 use Rattle.sendsms_form.specs.Messages.{message}
 use Rattle.sendsms_form.proofs.Lists.{one_more}
-use Rattle.sendsms_form.proofs.messages.put_parts.Goals as goal
+use Rattle.sendsms_form.proofs.outgoing.put_parts.Goals as goal
 
 pub loop-part-preserved : goal.loop-part-preserved
 loop-part-preserved c =

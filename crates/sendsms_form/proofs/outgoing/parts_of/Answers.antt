@@ -1,7 +1,7 @@
 use Rattle.std.proofs.Common.{sym, subst}
 use Rattle.concat_split.specs.Parts.{AreLimits}
 use Rattle.sendsms_form.proofs.SplitTexts.{are_limits}
-use Rattle.sendsms_form.proofs.messages.parts_of.Goals as goal
+use Rattle.sendsms_form.proofs.outgoing.parts_of.Goals as goal
 
 pub split-requires-clause-limits : goal.split-requires-clause-limits
 split-requires-clause-limits c =

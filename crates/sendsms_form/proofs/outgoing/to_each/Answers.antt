@@ -1,7 +1,7 @@
 use Rattle.std.proofs.Common.{map}
 use Rattle.sendsms_form.specs.Messages.{message}
 use Rattle.sendsms_form.proofs.Lists.{several_more}
-use Rattle.sendsms_form.proofs.messages.to_each.Goals as goal
+use Rattle.sendsms_form.proofs.outgoing.to_each.Goals as goal
 
 pub loop-receiver-preserved : goal.loop-receiver-preserved
 loop-receiver-preserved c =
