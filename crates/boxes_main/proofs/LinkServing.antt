@@ -1,10 +1,8 @@
 -- A session of a link that was held over a store that was opened, and what is left of it.
 use Rattle.std.proofs.Common.{◌≡◌, ◌⊎◌, ℕ, Bool, false, List, [], ◌∷◌, ◌++◌, Option, Some, None, refl, ap, sym, ◌∙◌, subst}
-use Rattle.std.specs.Prelude.{IfSome, MatchOption, is_some, option_map}
-use Rattle.std.specs.Option.{option_map_or}
+use Rattle.std.specs.Prelude.{IfSome, is_some, option_map}
 use Rattle.kn_base.specs.Count.{Rose}
 use Rattle.kn_base.specs.Talk.{heard_of, said_of}
-use Rattle.kn_base.specs.declared.piece.Past.{Past}
 use Rattle.kn_base.proofs.Readings.{readings_first}
 use Rattle.config_groups.specs.declared.settings.link_settings.LinkSettings.{LinkSettings}
 use Rattle.gate_entries.specs.declared.recorded.Recorded.{Recorded}
@@ -28,17 +26,20 @@ use Rattle.smpp_link.specs.Saying as smpp
 use Rattle.smpp_wire.specs.Command.{BindFields}
 use Rattle.store_disk.specs.Disk.{Areas}
 use Rattle.store_disk.specs.Story.{Story}
-use Rattle.boxes_main.specs.Failure.{status_of}
+use Rattle.boxes_main.specs.Failure.{row_of, status_of}
 use Rattle.boxes_main.specs.House.{Rooms, Stock, IsNewDialer, IsToldWord}
 use Rattle.boxes_main.specs.Link.{link_fault, terms_for, said_to, talk_cause, DiskRose, IsHeld, IsUndialled, IsKept}
+use Rattle.boxes_main.specs.LinkFault.{link_row}
 use Rattle.boxes_main.specs.LinkSteps.{Calls, CallsNone, HoldsWith, IsNewSession, MayBegin, ServedSo, ServesLink, ends_by, failure_by, pasts_by}
 use Rattle.boxes_main.specs.Opening.{IsHouseDisk}
 use Rattle.boxes_main.specs.Worker.{Worker}
 use Rattle.boxes_main.specs.declared.command_end.Role.TheVariants as role_is
 use Rattle.boxes_main.specs.declared.failure.Failure.{Failure}
-use Rattle.boxes_main.specs.declared.failure.Failure.TheVariants.{Link}
+use Rattle.boxes_main.specs.declared.failure.Failure.TheVariants.{Own}
+use Rattle.boxes_main.specs.declared.link_fault.EndFault.{EndFault}
+use Rattle.boxes_main.specs.declared.link_fault.LinkFault.{LinkFault}
+use Rattle.boxes_main.specs.declared.link_fault.LinkFault.TheVariants.{Session as Failed}
 use Rattle.boxes_main.specs.declared.link_session.Held.{Held}
-use Rattle.boxes_main.specs.declared.link_session.LinkFault.{LinkFault}
 use Rattle.boxes_main.proofs.LinkKept.{kept_by}
 use Rattle.boxes_main.proofs.Sessions.{ClosesAs, ClosesTo, opened_unfailed}
 
@@ -55,20 +56,6 @@ stays_first : {A : Type 0} (old new : Option (List A)) → IfSome old (λ so_far
 stays_first old None none stays = tt
 stays_first None (Some all) none stays = absurd (let e : None ≡ Some all = stays in cc)
 stays_first (Some so_far) (Some all) none stays = let same : so_far ≡ all = let e : Some so_far ≡ Some all = stays in cc in sym same ∙ none
-
--- the pasts that are told are those that are left
-told_pasts : (cause : EndCause) (held_past : Option Past) (pasts : Option (List Past)) (between : Option (List Past)) → IfSome between (λ so_far. so_far ≡ [])
-    → IfSome pasts (λ _. (past : Past) × (held_past ≡ Some past) × Adds past between pasts)
-    → IfSome pasts (λ all. all ≡ pasts_by (Some (record { cause = cause; past = held_past })))
-told_pasts cause held_past None between none is = tt
-told_pasts cause held_past (Some all) between none is =
-    let first : all ≡ is.0 ∷ [] = adds_first is.0 between (Some all) none is.2 in
-    first ∙ sym (ap (λ (p : Option Past). option_map_or (λ past. past ∷ []) p []) is.1)
-
-left_pasts : (cause : EndCause) (past : Option Past)
-    → MatchOption past (pasts_by (Some (record { cause = cause; past = past })) ≡ []) (λ one. pasts_by (Some (record { cause = cause; past = past })) ≡ one ∷ [])
-left_pasts cause None = refl
-left_pasts cause (Some past) = refl
 
 module _
     {D C L : Type 0} (tells : Bool) (story : D → Story) (faults calls : D → ℕ) (readings_of : C → Option (List ℕ)) (dealings : L → Dealings)
@@ -150,7 +137,8 @@ module _
           readings = holds.readings;
           deeds = holds.deeds;
           talks = holds.talks;
-          counts = holds.counts;
+          past = held.past;
+          past_is = holds.past_is;
           counted = holds.counted;
           dialer = dialer_later;
           worker = worker_left (Some held);
@@ -160,13 +148,11 @@ module _
             clock = readings_first holds.readings (readings_of clock) (readings_of clock_later) new_clock holds.clock;
             dialer_is = refl;
             dialled = adds_first (asked_for centre.host centre.port) (dealings dialer).dials (dealings dialer_later).dials new_dialer.undialled dials;
-            told = told_pasts held.cause held.past (dealings dialer_later).pasts between.pasts
+            told = adds_first held.past between.pasts (dealings dialer_later).pasts
                 (stays_first (dealings dialer).pasts between.pasts new_dialer.no_pasts stays) holds.pasts;
           };
           ends = refl;
-          past = held.past;
-          past_is = holds.past_is;
-          pasts = left_pasts held.cause held.past;
+          pasts = refl;
           after = disk;
           handed_back = refl;
           unsure = unsure_in after;
@@ -177,9 +163,9 @@ module _
         }
 
     -- by what the command fails by
-    served_by : (workers : List (Worker C L)) (fault : Option LinkFault)
+    served_by : (workers : List (Worker C L)) (fault : Option EndFault)
         → IsHeld tells story faults calls readings_of dealings rules number centre areas word workers (Some disk) fault
-        → ServedSo tells story faults calls readings_of dealings rules number centre areas word workers (Some disk) (option_map Link fault)
+        → ServedSo tells story faults calls readings_of dealings rules number centre areas word workers (Some disk) (option_map Failed fault)
     served_by workers None held = held
     served_by workers (Some fault) held = held
 
@@ -194,7 +180,8 @@ module _
 
   -- a centre was dialled over a store, and the store was closed
   pub serves_link_by : {V S O E : Type 0} (old mid new : Rooms V S O E) (before between later : Stock) → mid ≡ old → new ≡ mid → between ≡ before → later ≡ between
-      → (status : ℕ) (failure : Option Failure) (held : Option Held) → status ≡ status_of failure → failure ≡ failure_by (is_some (unsure_in after)) held
+      → (status : ℕ) (failure : Option (Failure LinkFault)) (held : Option Held) → status ≡ status_of (row_of link_row) failure
+      → failure ≡ option_map Own (failure_by (is_some (unsure_in after)) held)
       → (workers : List (Worker C L)) → workers ≡ worker_left held ∷ []
       → Calls Hears Refuses smpp.said tells story faults calls (bind_of centre) (terms_for number centre) centre (readings_of clock) (readings_of clock_later) store after
       (dealings dialer) (dealings dialer_later) held
@@ -204,9 +191,10 @@ module _
     stock = stock_then ∙ stock_first;
     right = right;
     back = refl;
+    fault = failure_by (is_some (unsure_in after)) held;
+    failed = failed;
     served = λ rules areas word birth found told new_disk is.
-        subst (λ (f : Option Failure). ServedSo tells story faults calls readings_of dealings rules number centre areas word workers (Some disk) f) (sym failed)
-        (subst (λ (ws : List (Worker C L)). ServedSo tells story faults calls readings_of dealings rules number centre areas word ws (Some disk)
+        subst (λ (ws : List (Worker C L)). ServedSo tells story faults calls readings_of dealings rules number centre areas word ws (Some disk)
         (failure_by (is_some (unsure_in after)) held)) (sym left)
-        (served_so rules areas word birth found told new_disk is held calls_));
+        (served_so rules areas word birth found told new_disk is held calls_);
   }

@@ -7,10 +7,10 @@ use Rattle.gate_store.specs.Store.{IsOpened, GivesBack}
 use Rattle.gate_store.specs.declared.store.Store.{Store}
 use Rattle.gate_store.specs.declared.store_fault.StoreFault.{StoreFault}
 use Rattle.boxes_main.specs.House.{Rooms, Stock, MakesOne, IsNewDisk, IsToldWord}
-use Rattle.boxes_main.specs.Opening.{IsConfigured, IsNotOpen}
+use Rattle.boxes_main.specs.Opening.{IsConfigured, IsNotOpen, anything}
 use Rattle.boxes_main.specs.OpeningSteps.{OpensStore, OpensNone, Opens, OpensNothing}
-use Rattle.boxes_main.specs.declared.failure.Failure.{Failure}
-use Rattle.boxes_main.specs.declared.failure.Failure.TheVariants as failure_is
+use Rattle.boxes_main.specs.declared.opening_fault.OpeningFault.{OpeningFault}
+use Rattle.boxes_main.specs.declared.opening_fault.OpeningFault.TheVariants as opening_is
 
 -- the birth that was told before a disk was made
 told_before : (old new : Stock) (birth : ℕ) → MakesOne old new → IsToldWord new.word birth → IsToldWord old.word birth
@@ -37,7 +37,7 @@ module _
   pub none_by : MakesOne before made → after ≡ made
       → IsNewDisk tells (story disk) (calls disk) (faults disk) (before.disks settings.core.store_file)
       → (back : D) (fault : StoreFault) → GivesBack tells story faults calls disk settings.rules back fault
-      → OpensNone tells story faults calls settings before after (failure_is.Store fault) (Some back)
+      → OpensNone tells story faults calls settings before after (opening_is.Store fault) (Some back)
   none_by makes same new_disk back fault is = record {
     made = subst (λ s. MakesOne before s) (sym same) makes;
     fault = fault;
@@ -66,15 +66,15 @@ module _
   }
 
   -- the configuration was read, and its store wasn't opened
-  pub none_open : (settings : Settings) (failure : Failure) (disk : Option D) → mid ≡ record old { shelf = mid.shelf } → between ≡ before → new ≡ mid
+  pub none_open : (settings : Settings) (fault : OpeningFault) (disk : Option D) → mid ≡ record old { shelf = mid.shelf } → between ≡ before → new ≡ mid
       → IsConfigured files shelf_faults name old.shelf mid.shelf settings
-      → OpensNone tells story faults calls settings between after failure disk
-      → OpensNothing files shelf_faults tells story faults calls name old new before after failure disk
-  none_open settings failure disk read stays same configured opens =
-      let none = subst (λ (s : Stock). OpensNone tells story faults calls settings s after failure disk) stays opens in
+      → OpensNone tells story faults calls settings between after fault disk
+      → OpensNothing files shelf_faults tells story faults calls name old new before after fault disk
+  none_open settings fault disk read stays same configured opens =
+      let none = subst (λ (s : Stock). OpensNone tells story faults calls settings s after fault disk) stays opens in
       record {
         others = others_by read same;
         made = none.made;
-        cause = subst (λ f. IsNotOpen files shelf_faults tells story faults calls name old.shelf new.shelf before disk f) (sym none.failed)
-            (settings, subst (λ (r : Rooms V S O E). IsConfigured files shelf_faults name old.shelf r.shelf settings) (sym same) configured, none.cause);
+        cause = subst (λ f. IsNotOpen files shelf_faults tells story faults calls anything name old.shelf new.shelf before disk f) (sym none.failed)
+            (settings, subst (λ (r : Rooms V S O E). IsConfigured files shelf_faults name old.shelf r.shelf settings) (sym same) configured, tt, none.cause);
       }

@@ -26,17 +26,19 @@ use Rattle.gate_store.proofs.Commits.{reasoned, ruled_on, gained, doubted, born_
 use Rattle.gate_store.proofs.Told.{told_both, told_leaves_weaker}
 use Rattle.boxes_main.specs.Door.{IsInDoubt, IsSession, ReopensAmid, octets_limit, fault_by}
 use Rattle.boxes_main.specs.DoorSteps.{ServesOne}
-use Rattle.boxes_main.specs.Failure.{status_of}
+use Rattle.boxes_main.specs.Failure.{row_of, status_of}
 use Rattle.boxes_main.specs.House.{Rooms, Stock, IsToldWord}
 use Rattle.boxes_main.specs.Opening.{IsFound, IsHouseDisk}
-use Rattle.boxes_main.specs.Show.{show_text, Prints}
+use Rattle.boxes_main.specs.Show.{show_text, Prints, output_row}
+use Rattle.boxes_main.specs.SessionFault.{session_row}
 use Rattle.boxes_main.specs.ShowSteps.{ShowsOne}
 use Rattle.boxes_main.specs.Worker.{Worker}
 use Rattle.boxes_main.specs.declared.command_end.Role.TheVariants as role_is
 use Rattle.boxes_main.specs.declared.command_end.SessionEnd.TheVariants as ended_as
 use Rattle.boxes_main.specs.declared.failure.Failure.{Failure}
-use Rattle.boxes_main.specs.declared.failure.Failure.TheVariants.{Session, Output}
+use Rattle.boxes_main.specs.declared.failure.Failure.TheVariants.{Own}
 use Rattle.boxes_main.specs.declared.printing.OutputFault.{OutputFault}
+use Rattle.boxes_main.specs.declared.session_fault.SessionFault.{SessionFault}
 use Rattle.boxes_main.proofs.Amid.{amid, amid_first, calls_after, opening_stops, state_after}
 use Rattle.boxes_main.proofs.Answered.{talk_done}
 use Rattle.boxes_main.proofs.Doubts.{in_doubt}
@@ -140,7 +142,7 @@ module _
     (old new : Rooms V S O E) (before after : Stock) (output : O) (store : Store D) (totals : Totals) (disk : D) (workers : List (Worker C L)) where
   -- what a store counts was printed on the house's output
   pub shows_by : new ≡ record old { output = output } → after ≡ before
-      → (status : ℕ) (failure : Option Failure) (fault : Option OutputFault) → status ≡ status_of failure → failure ≡ option_map Output fault → workers ≡ []
+      → (status : ℕ) (failure : Option (Failure OutputFault)) (fault : Option OutputFault) → status ≡ status_of (row_of output_row) failure → failure ≡ option_map Own fault → workers ≡ []
       → Prints (show_text totals) fault (course old.output) (course output)
       → (totals ≡ totals_of (state_in store)) → disk ≡ disk_in store → ClosesAs tells story faults calls store disk
       → ShowsOne course tells story faults calls rules old new before after store status failure (Some disk) workers
@@ -177,7 +179,7 @@ module _
     (readings : List ℕ) (deeds : List Deed) (end : HttpEnd) (disk : D) (workers : List (Worker C L)) where
   -- a session that was served on the house's visitor, with a clock of it
   pub serves_by : mid ≡ old → new ≡ record mid { visitor = peer } → between ≡ before → after ≡ between
-      → (status : ℕ) (failure : Option Failure) → status ≡ status_of failure → failure ≡ option_map Session (fault_by (is_some (unsure_in later)) end)
+      → (status : ℕ) (failure : Option (Failure SessionFault)) → status ≡ status_of (row_of session_row) failure → failure ≡ option_map Own (fault_by (is_some (unsure_in later)) end)
       → workers ≡ record { role = role_is.Http; clock = Some clock_later; dialer = None; ends = ended_as.Http end ∷ []; pasts = [] } ∷ []
       → IfSome (readings_of clock) (λ so_far. so_far ≡ []) → AddsAll readings (readings_of clock) (readings_of clock_later)
       → Talks settings octets_limit (course mid.visitor) (course peer) readings deeds end → Leads tells story faults calls store deeds later

@@ -18,13 +18,14 @@ use Rattle.store_disk.specs.Story.{Story, IsImage, LeavesOnly, untold}
 use Rattle.gate_store.specs.Deeds.{AreReasoned, done_of, entry_of}
 use Rattle.gate_store.specs.Entries.{state_of}
 use Rattle.gate_store.specs.Reopening.{MayReopen, MayStandFor}
+use Rattle.boxes_main.specs.Failure.{ComesTo}
 use Rattle.boxes_main.specs.House.{Rooms, Stock}
-use Rattle.boxes_main.specs.Opening.{IsConfigured, IsFound, IsNotOpen}
+use Rattle.boxes_main.specs.Opening.{IsConfigured, IsFound, IsNotOpen, anything}
 use Rattle.boxes_main.specs.Worker.{Worker, IsHttpWorker}
 use Rattle.boxes_main.specs.declared.failure.Failure.{Failure}
-use Rattle.boxes_main.specs.declared.failure.Failure.TheVariants.{Usage, Configuration, NoSuchLink, KindNotBuilt, NoStoreFile, Store, Session, Undialled, Link, Output}
-use Rattle.boxes_main.specs.declared.session.SessionFault.{SessionFault}
-use Rattle.boxes_main.specs.declared.session.SessionFault.TheVariants.{Disk, Connection, Budget, Memory}
+use Rattle.boxes_main.specs.declared.opening_fault.OpeningFault.{OpeningFault}
+use Rattle.boxes_main.specs.declared.session_fault.SessionFault.{SessionFault}
+use Rattle.boxes_main.specs.declared.session_fault.SessionFault.TheVariants.{Disk, Connection, Budget, Memory}
 
 -- the octets that one connection may say
 abbrev pub octets_limit : ℕ
@@ -135,20 +136,12 @@ module _
 
   -- No store stood open, and no session was served.
   pub record ServesNone
-      (name : Option (List ℕ)) (old new : Rooms V S O E) (stock : Stock) (workers : List (Worker C L)) (disk : Option D) (failure : Failure) : Type 0 where
+      (name : Option (List ℕ)) (old new : Rooms V S O E) (stock : Stock) (workers : List (Worker C L)) (disk : Option D) (fault : OpeningFault) : Type 0 where
     pub unserved : IsUnserved old.visitor new.visitor workers
-    pub cause : IsNotOpen files shelf_faults tells story faults calls name old.shelf new.shelf stock disk failure
+    pub cause : IsNotOpen files shelf_faults tells story faults calls anything name old.shelf new.shelf stock disk fault
 
-  -- what the command comes to, by what went wrong
-  abbrev pub ComesTo : (name : Option (List ℕ)) → Rooms V S O E → Rooms V S O E → Stock → List (Worker C L) → Option D → Option Failure → Type 0
-  ComesTo name old new stock workers disk None = Serves name old new stock workers disk None
-  ComesTo name old new stock workers disk (Some (Session fault)) = Serves name old new stock workers disk (Some fault)
-  ComesTo name old new stock workers disk (Some Usage) = ServesNone name old new stock workers disk Usage
-  ComesTo name old new stock workers disk (Some (Configuration fault)) = ServesNone name old new stock workers disk (Configuration fault)
-  ComesTo name old new stock workers disk (Some NoStoreFile) = ServesNone name old new stock workers disk NoStoreFile
-  ComesTo name old new stock workers disk (Some (Store fault)) = ServesNone name old new stock workers disk (Store fault)
-  ComesTo name old new stock workers disk (Some (Output fault)) = ⊥
-  ComesTo name old new stock workers disk (Some NoSuchLink) = ⊥
-  ComesTo name old new stock workers disk (Some KindNotBuilt) = ⊥
-  ComesTo name old new stock workers disk (Some Undialled) = ⊥
-  ComesTo name old new stock workers disk (Some (Link fault)) = ⊥
+  -- what the command comes to
+  abbrev pub DoorComesTo :
+      (name : Option (List ℕ)) → Rooms V S O E → Rooms V S O E → Stock → List (Worker C L) → Option D → Option (Failure SessionFault) → Type 0
+  DoorComesTo name old new stock workers disk =
+      ComesTo (ServesNone name old new stock workers disk) (Serves name old new stock workers disk)

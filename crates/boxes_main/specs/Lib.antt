@@ -5,13 +5,16 @@ pub mod DoorSteps
 pub mod Failure
 pub mod Giving
 pub mod House
-pub mod Lines
+pub mod Line
 pub mod Link
 pub mod LinkDeeds
+pub mod LinkFault
 pub mod LinkSteps
 pub mod MemHouse
 pub mod Opening
+pub mod OpeningFault
 pub mod OpeningSteps
+pub mod SessionFault
 pub mod Show
 pub mod ShowSteps
 pub mod Worker

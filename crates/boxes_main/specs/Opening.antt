@@ -1,5 +1,5 @@
 -- What stands behind each command that has a store: its configuration was read, and the store that it names was opened.
-use Rattle.std.specs.Prelude.{◌≡◌, ◌≢◌, ℕ, ◌≤◌, Bool, List, [], Option, None, Result, Ok, Err, IfSome, IsSomeAnd, IsErrOf, MatchOption}
+use Rattle.std.specs.Prelude.{◌≡◌, ◌≢◌, ℕ, ◌≤◌, Bool, List, [], Option, None, Result, Ok, Err, IfSome, IsSomeAnd, IsErrOf, MatchOption, ⊤}
 use Rattle.std.specs.Bool.{OnTrue}
 use Rattle.kn_base.specs.Count.{Rose}
 use Rattle.config_groups.specs.Config.{IsConfig}
@@ -16,8 +16,8 @@ use Rattle.gate_store.specs.Store.{GivesBack}
 use Rattle.gate_store.specs.declared.store_fault.StoreFault.{StoreFault}
 use Rattle.gate_store.specs.declared.store_fault.StoreFault.TheVariants as store_is
 use Rattle.boxes_main.specs.House.{Stock, IsNewDisk, IsToldWord}
-use Rattle.boxes_main.specs.declared.failure.Failure.{Failure}
-use Rattle.boxes_main.specs.declared.failure.Failure.TheVariants.{Usage, Configuration, NoSuchLink, KindNotBuilt, NoStoreFile, Store, Session, Undialled, Link, Output}
+use Rattle.boxes_main.specs.declared.opening_fault.OpeningFault.{OpeningFault}
+use Rattle.boxes_main.specs.declared.opening_fault.OpeningFault.TheVariants.{Usage, Configuration, NoStoreFile, Store}
 
 module _ {S : Type 0} (files : S → Option (List (List ℕ × List ℕ))) (faults : S → ℕ) where
   -- The configuration of a name was read from a shelf, to settings or a fault: those of its files, where they are told. They stay.
@@ -27,14 +27,18 @@ module _ {S : Type 0} (files : S → Option (List (List ℕ × List ℕ))) (faul
     pub kept : files new ≡ files old
     pub not_fewer : faults old ≤ faults new
 
+  -- the configuration that the words name was read, and has these settings
+  abbrev pub HasSettings : (name : Option (List ℕ)) → S → S → Settings → Type 0
+  HasSettings name old new settings = IsSomeAnd name (λ name. Reads name old new (Ok settings))
+
   -- The configuration that the words name has these settings, and they name a store.
   pub record IsConfigured (name : Option (List ℕ)) (old new : S) (settings : Settings) : Type 0 where
-    pub reads : IsSomeAnd name (λ name. Reads name old new (Ok settings))
+    pub reads : HasSettings name old new settings
     pub store_file : settings.core.store_file ≢ []
 
   -- The configuration that the words name has these settings, and they name no store.
   pub record LacksStoreFile (name : Option (List ℕ)) (old new : S) (settings : Settings) : Type 0 where
-    pub reads : IsSomeAnd name (λ name. Reads name old new (Ok settings))
+    pub reads : HasSettings name old new settings
     pub no_store_file : settings.core.store_file ≡ []
 
 module _ {D : Type 0} (tells : Bool) (story : D → Story) (faults calls : D → ℕ) where
@@ -59,21 +63,20 @@ pub record IsFound (tells : Bool) (areas : Areas) (word : Option ℕ) (rules : R
   pub stood : OnTrue tells (StandsFor (stands areas) birth entries)
   pub born : OnTrue tells (stands areas ≡ unborn → IsToldWord word birth)
 
+-- a command that asks for nothing else in its settings
+abbrev pub anything : Settings → Type 0
+anything settings = ⊤
+
 module _
     {S D : Type 0} (files : S → Option (List (List ℕ × List ℕ))) (shelf_faults : S → ℕ)
-    (tells : Bool) (story : D → Story) (faults calls : D → ℕ) where
-  -- Why no store stands open, by what went wrong: the words are none of the command's; the configuration was refused, or names no
-  -- store; or its store wasn't opened on the house's disk under that name.
-  abbrev pub IsNotOpen : (name : Option (List ℕ)) → S → S → Stock → Option D → Failure → Type 0
+    (tells : Bool) (story : D → Story) (faults calls : D → ℕ) (HasAsked : Settings → Type 0) where
+  -- Why no store stands open, by the fault: the words are none of the command's; the configuration was refused; or it has what the command asks for
+  -- in it, but names no store; or its store wasn't opened on the house's disk under that name, or there was no memory for it.
+  abbrev pub IsNotOpen : (name : Option (List ℕ)) → S → S → Stock → Option D → OpeningFault → Type 0
   IsNotOpen name old new stock disk Usage = (name ≡ None) × (new ≡ old) × (disk ≡ None)
   IsNotOpen name old new stock disk (Configuration fault) = IsSomeAnd name (λ name. Reads files shelf_faults name old new (Err fault)) × (disk ≡ None)
-  IsNotOpen name old new stock disk NoStoreFile = (settings : Settings) × LacksStoreFile files shelf_faults name old new settings × (disk ≡ None)
+  IsNotOpen name old new stock disk NoStoreFile =
+      (settings : Settings) × LacksStoreFile files shelf_faults name old new settings × HasAsked settings × (disk ≡ None)
   IsNotOpen name old new stock disk (Store fault) =
-      (settings : Settings) × IsConfigured files shelf_faults name old new settings
+      (settings : Settings) × IsConfigured files shelf_faults name old new settings × HasAsked settings
       × IsNoStore tells story faults calls (stock.disks settings.core.store_file) settings.rules disk fault
-  IsNotOpen name old new stock disk (Session fault) = ⊥
-  IsNotOpen name old new stock disk (Output fault) = ⊥
-  IsNotOpen name old new stock disk NoSuchLink = ⊥
-  IsNotOpen name old new stock disk KindNotBuilt = ⊥
-  IsNotOpen name old new stock disk Undialled = ⊥
-  IsNotOpen name old new stock disk (Link fault) = ⊥

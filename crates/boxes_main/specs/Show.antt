@@ -13,10 +13,12 @@ use Rattle.gate_model.specs.State.{totals_of}
 use Rattle.gate_store.specs.Entries.{state_of}
 use Rattle.gate_store.specs.Reopening.{ReopensTo, MayStandFor}
 use Rattle.route_rules.specs.declared.rules.Rules.{Rules}
+use Rattle.boxes_main.specs.Failure.{ComesTo}
 use Rattle.boxes_main.specs.House.{Rooms, Stock}
-use Rattle.boxes_main.specs.Opening.{IsConfigured, IsFound, IsNotOpen}
+use Rattle.boxes_main.specs.Line.{Row, line}
+use Rattle.boxes_main.specs.Opening.{IsConfigured, IsFound, IsNotOpen, anything}
 use Rattle.boxes_main.specs.declared.failure.Failure.{Failure}
-use Rattle.boxes_main.specs.declared.failure.Failure.TheVariants.{Usage, Configuration, NoSuchLink, KindNotBuilt, NoStoreFile, Store, Session, Undialled, Link, Output}
+use Rattle.boxes_main.specs.declared.opening_fault.OpeningFault.{OpeningFault}
 use Rattle.boxes_main.specs.declared.printing.OutputFault.{OutputFault}
 use Rattle.boxes_main.specs.declared.printing.OutputFault.TheVariants.{Failed, Memory}
 
@@ -39,6 +41,11 @@ show_text totals =
     ++ row (codes "arrived") totals.arrived
     ++ row (codes "arrivals") totals.arrivals
     ++ row (codes "entries") totals.entries
+
+-- how the program ends where the output failed
+abbrev pub output_row : OutputFault → Row
+output_row Failed = (6, line (codes "boxes: connection fault"))
+output_row Memory = (9, line (codes "boxes: out of memory"))
 
 -- what printing a text does: all of it went out, or a front of it, and a count of the output rose
 abbrev pub Prints : List ℕ → Option OutputFault → Course → Course → Type 0
@@ -71,20 +78,10 @@ module _
     pub shown : IsShown tells story faults calls (stock.disks settings.core.store_file) stock.word settings.rules (course old.output) (course new.output) disk fault
 
   -- No store stood open, and nothing was printed.
-  pub record ShowsNone (name : Option (List ℕ)) (old new : Rooms V S O E) (stock : Stock) (disk : Option D) (failure : Failure) : Type 0 where
+  pub record ShowsNone (name : Option (List ℕ)) (old new : Rooms V S O E) (stock : Stock) (disk : Option D) (fault : OpeningFault) : Type 0 where
     pub unprinted : new.output ≡ old.output
-    pub cause : IsNotOpen files shelf_faults tells story faults calls name old.shelf new.shelf stock disk failure
+    pub cause : IsNotOpen files shelf_faults tells story faults calls anything name old.shelf new.shelf stock disk fault
 
-  -- what the command comes to, by what went wrong
-  abbrev pub ComesToShow : (name : Option (List ℕ)) → Rooms V S O E → Rooms V S O E → Stock → Option D → Option Failure → Type 0
-  ComesToShow name old new stock disk None = Shows name old new stock disk None
-  ComesToShow name old new stock disk (Some (Output fault)) = Shows name old new stock disk (Some fault)
-  ComesToShow name old new stock disk (Some Usage) = ShowsNone name old new stock disk Usage
-  ComesToShow name old new stock disk (Some (Configuration fault)) = ShowsNone name old new stock disk (Configuration fault)
-  ComesToShow name old new stock disk (Some NoStoreFile) = ShowsNone name old new stock disk NoStoreFile
-  ComesToShow name old new stock disk (Some (Store fault)) = ShowsNone name old new stock disk (Store fault)
-  ComesToShow name old new stock disk (Some (Session fault)) = ⊥
-  ComesToShow name old new stock disk (Some NoSuchLink) = ⊥
-  ComesToShow name old new stock disk (Some KindNotBuilt) = ⊥
-  ComesToShow name old new stock disk (Some Undialled) = ⊥
-  ComesToShow name old new stock disk (Some (Link fault)) = ⊥
+  -- what the command comes to
+  abbrev pub ShowComesTo : (name : Option (List ℕ)) → Rooms V S O E → Rooms V S O E → Stock → Option D → Option (Failure OutputFault) → Type 0
+  ShowComesTo name old new stock disk = ComesTo (ShowsNone name old new stock disk) (Shows name old new stock disk)

@@ -1,7 +1,7 @@
 use Rattle.std.proofs.Common.{List, ℕ, [], ◌∷◌, ◌++◌, ◌∙◌, codes, decimal, subst}
 use Rattle.std.proofs.lemmas.List.{append-nil}
 use Rattle.boxes_main.specs.Giving.{GivesText}
-use Rattle.boxes_main.proofs.failure.give_line.Goals as goal
+use Rattle.boxes_main.proofs.line.give_line.Goals as goal
 
 pub returns-in-Place : goal.returns-in-Place
 returns-in-Place g c =

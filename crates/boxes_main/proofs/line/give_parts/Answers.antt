@@ -1,6 +1,6 @@
 use Rattle.std.proofs.lemmas.Result.{err_from_is_err_and}
 use Rattle.boxes_main.proofs.Gives.{parts-cut, parts-cut_later, parts-end}
-use Rattle.boxes_main.proofs.failure.give_parts.Goals as goal
+use Rattle.boxes_main.proofs.line.give_parts.Goals as goal
 
 pub returns-in_err-give_two : goal.returns-in_err-give_two
 returns-in_err-give_two g c =
