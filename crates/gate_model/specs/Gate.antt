@@ -93,12 +93,9 @@ is_awaited_in acked state = option_map_or (is_awaited acked.foreign) (sms_of ack
 abbrev pub HasRoomFor : Gate → Recorded → Type 0
 HasRoomFor gate (entry.Accept accept) = length accept.parts ≤ gate.waiting.room
 HasRoomFor gate (entry.Acked acked) = IsTrue (is_awaited_in acked (model_of gate)) → 0 < spare gate.reports acked.smsc acked.foreign
-HasRoomFor gate (entry.Rejected rejected) = ⊤
-HasRoomFor gate (entry.Reported reported) = ⊤
 HasRoomFor gate (entry.Arrived arrived) = 1 ≤ gate.arrivals.room
 HasRoomFor gate (entry.Answered answered) = length answered.parts ≤ gate.waiting.room
-HasRoomFor gate (entry.Called called) = ⊤
-HasRoomFor gate (entry.CallDropped dropped) = ⊤
+HasRoomFor gate other = ⊤
 
 -- the entry that was prepared
 abbrev pub entry_of : Ready → Recorded

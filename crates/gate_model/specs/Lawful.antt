@@ -105,14 +105,13 @@ HoldsMessage state message Expired = IsFree state message
 
 -- what a recorded entry needs besides being sound: whoever ends a thing has taken it
 abbrev pub HoldsLease : State → Recorded → Type 0
-HoldsLease state (entry.Accept accept) = ⊤
 HoldsLease state (entry.Acked acked) = IsLeased state acked.message
 HoldsLease state (entry.Rejected rejected) = HoldsMessage state rejected.message rejected.cause
-HoldsLease state (entry.Reported reported) = ⊤
-HoldsLease state (entry.Arrived arrived) = ⊤
 HoldsLease state (entry.Answered answered) = All (IsArrival true state) answered.arrivals
 HoldsLease state (entry.Called called) = IsJob true state called.job
-HoldsLease state (entry.CallDropped dropped) = IsSomeAnd (value_under dropped.job state.jobs) (λ job. (job.leased ≡ true) × IsTriedOut dropped.cause job)
+HoldsLease state (entry.CallDropped dropped) =
+    IsSomeAnd (value_under dropped.job state.jobs) (λ job. (job.leased ≡ true) × IsTriedOut dropped.cause job)
+HoldsLease state other = ⊤
 
 -- a link may take the message now
 abbrev pub MayTake : Rules → State → (link now : ℕ) → Waiting → Type 0
@@ -170,10 +169,6 @@ refused_parts rules state parts = option_or (without_route rules parts) (option_
 -- why a recorded entry is refused, if it is
 abbrev pub refusal : Rules → State → Recorded → Option Refusal
 refusal rules state (entry.Accept accept) = refused_parts rules state accept.parts
-refusal rules state (entry.Acked acked) = past_entries state
-refusal rules state (entry.Rejected rejected) = past_entries state
-refusal rules state (entry.Reported reported) = past_entries state
-refusal rules state (entry.Arrived arrived) = option_or (past_arrivals rules state) (past_entries state)
 refusal rules state (entry.Answered answered) = refused_parts rules state answered.parts
-refusal rules state (entry.Called called) = past_entries state
-refusal rules state (entry.CallDropped dropped) = past_entries state
+refusal rules state (entry.Arrived arrived) = option_or (past_arrivals rules state) (past_entries state)
+refusal rules state other = past_entries state
