@@ -116,12 +116,12 @@ module _
     }
 
     -- a fault of the disk is told only where its count rose
-    disk_rose : (unsure : Option Recorded) (cause : EndCause) (heard spoken readings : List ℕ) (deeds : List Deed) → meaning.faults (disk_in store) ≡ 0 → IfSome unsure (λ _. Rose 0 (faults disk))
+    disk_rose : (unsure : Option Recorded) (cause : EndCause) (heard spoken readings : List ℕ) (deeds : List Deed) → meaning.faults (disk_in store) ≡ 0 → IfSome unsure (λ _. Rose 0 (meaning.faults disk))
         → LinkTalk Hears Refuses (said_to centre) (terms_for number centre) heard spoken readings deeds (talk_cause cause)
         → Leads meaning number store deeds after → DiskRose (link_fault (is_some unsure) cause) (meaning.faults disk)
     disk_rose (Some kept) cause heard spoken readings deeds none rose talk led = rose
     disk_rose None end_is.Disk heard spoken readings deeds none rose talk led =
-        subst (λ (d : D). Rose 0 (faults d)) (sym same) (subst (λ n. Rose n (meaning.faults (disk_in after))) none
+        subst (λ (d : D). Rose 0 (meaning.faults d)) (sym same) (subst (λ n. Rose n (meaning.faults (disk_in after))) none
         (disk_failed meaning Hears Refuses (said_to centre) (terms_for number centre) heard spoken readings deeds number store after talk led))
     disk_rose None end_is.PeerEnd heard spoken readings deeds none rose talk led = tt
     disk_rose None end_is.PeerFault heard spoken readings deeds none rose talk led = tt
