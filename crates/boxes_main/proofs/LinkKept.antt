@@ -263,7 +263,7 @@ module _ {D : Type 0} (meaning : Meaning D) (rules : Rules) (link : ℕ) where
               (subst (λ (u : Option Recorded). IfSome u (IsInDoubt rules link deeds)) (sym stays.unsure) was.doubt);
           amid = told_leaves_weaker tells first (meaning.story (disk_in new)) (ReopensAmid rules link birth entries deeds) (ReopensAmid rules link birth entries (deed ∷ deeds))
               (still_amid birth entries deeds deed)
-              (subst (λ (d : D). OnTrue meaning.tells (LeavesOnly first (story d) (ReopensAmid rules link birth entries deeds))) (sym stays.disk) was.amid);
+              (subst (λ (d : D). OnTrue meaning.tells (LeavesOnly first (meaning.story d) (ReopensAmid rules link birth entries deeds))) (sym stays.disk) was.amid);
           rose = subst (λ (d : D). IfSome (unsure_in new) (λ _. Rose 0 (meaning.faults d))) (sym stays.disk)
               (subst (λ (u : Option Recorded). IfSome u (λ _. Rose 0 (meaning.faults (disk_in old)))) (sym stays.unsure) was.rose);
           bounded = omega (arith, fewer, same);
@@ -357,6 +357,6 @@ module _ {D : Type 0} (meaning : Meaning D) (rules : Rules) (link : ℕ) where
             (closes_to (birth_in opened) all behind.holds);
         reports = subst (λ (r : Rules). HaveReports (birth_in opened) (state_of (birth_in opened) r is.entries) (recorded_in rules link deeds) (state_in closed)) behind.ruled
             (reports_by meaning closed (birth_in opened) is.entries (recorded_in rules link deeds) behind.holds);
-        amid = subst (λ (d : D). OnTrue meaning.tells (LeavesOnly (untold areas) (story d) (ReopensAmid rules link (birth_in opened) is.entries deeds))) (sym same) behind.amid;
+        amid = subst (λ (d : D). OnTrue meaning.tells (LeavesOnly (untold areas) (meaning.story d) (ReopensAmid rules link (birth_in opened) is.entries deeds))) (sym same) behind.amid;
         bounded = let here : meaning.calls disk ≡ meaning.calls (disk_in closed) = ap meaning.calls same in let few = behind.bounded in omega (arith, here, few);
       }

@@ -72,7 +72,7 @@ module _
   -- whenever the opening stopped, the areas reopen to the state that it found
   pub opened_stops : OnTrue meaning.tells (LeavesOnly (untold areas) (meaning.story (disk_in store)) (ReopensTo rules (state_of (birth_in store) rules is.entries)))
   opened_stops = told_three meaning.tells _ _ _ _
-      (λ same stood alike. opening_stops (story disk) (meaning.story (disk_in store)) areas rules (birth_in store) is.entries same stood turns alike) new_disk.told is.stood is.stops
+      (λ same stood alike. opening_stops (meaning.story disk) (meaning.story (disk_in store)) areas rules (birth_in store) is.entries same stood turns alike) new_disk.told is.stood is.stops
 
   -- no disk call failed, and few were made
   pub opened_unfailed : meaning.faults (disk_in store) ≡ 0
@@ -85,12 +85,12 @@ module _ {D : Type 0} (meaning : Meaning D) where
   -- whatever a stop leaves of a disk that is handed back, by the store that was closed, stands for it
   abbrev pub ClosesAs : Store D → D → Type 0
   ClosesAs store disk = (birth : ℕ) (entries : List Recorded) → IsStore meaning store birth entries
-      → OnTrue meaning.tells ((image : Areas) → IsImage (story disk) image → MayStandFor birth entries (unsure_in store) image)
+      → OnTrue meaning.tells ((image : Areas) → IsImage (meaning.story disk) image → MayStandFor birth entries (unsure_in store) image)
 
   -- and reopens to its state
   abbrev pub ClosesTo : Store D → D → Type 0
   ClosesTo store disk = (birth : ℕ) (entries : List Recorded) → IsStore meaning store birth entries
-      → OnTrue meaning.tells ((image : Areas) → IsImage (story disk) image → MayReopen (birth_in store) (rules_in store) (state_in store) (unsure_in store) image)
+      → OnTrue meaning.tells ((image : Areas) → IsImage (meaning.story disk) image → MayReopen (birth_in store) (rules_in store) (state_in store) (unsure_in store) image)
 
   -- the session over a store that was opened
   pub session_by : (settings : Settings) (store later : Store D) (old new : Course) (readings : List ℕ) (deeds : List Deed) (end : HttpEnd) (disk : D)
@@ -121,11 +121,11 @@ module _ {D : Type 0} (meaning : Meaning D) where
         unsure = unsure_in later;
         doubt = in_doubt [] deeds (unsure_in store) (unsure_in later) sure (doubted meaning store later deeds led);
         stands = closes_as (birth_in store) all holds;
-        stops = subst (λ (s : State). OnTrue meaning.tells ((image : Areas) → IsImage (story disk) image → MayReopen birth_there rules s (unsure_in later) image)) state
-            (subst (λ (r : Rules). OnTrue meaning.tells ((image : Areas) → IsImage (story disk) image → MayReopen birth_there r (state_in later) (unsure_in later) image)) ruled
-            (subst (λ b. OnTrue meaning.tells ((image : Areas) → IsImage (story disk) image → MayReopen b (rules_in later) (state_in later) (unsure_in later) image)) born
+        stops = subst (λ (s : State). OnTrue meaning.tells ((image : Areas) → IsImage (meaning.story disk) image → MayReopen birth_there rules s (unsure_in later) image)) state
+            (subst (λ (r : Rules). OnTrue meaning.tells ((image : Areas) → IsImage (meaning.story disk) image → MayReopen birth_there r (state_in later) (unsure_in later) image)) ruled
+            (subst (λ b. OnTrue meaning.tells ((image : Areas) → IsImage (meaning.story disk) image → MayReopen b (rules_in later) (state_in later) (unsure_in later) image)) born
             (closes_to (birth_in store) all holds)));
-        amid = subst (λ (d : D). OnTrue meaning.tells (LeavesOnly (untold areas) (story d) (ReopensAmid birth_there rules is.entries deeds))) (sym same)
+        amid = subst (λ (d : D). OnTrue meaning.tells (LeavesOnly (untold areas) (meaning.story d) (ReopensAmid birth_there rules is.entries deeds))) (sym same)
             (amid meaning birth_there rules is.entries deeds (untold areas) [] deeds store later refl refl is.ruled
             (is.state ∙ ap (state_of birth_there rules) (sym (append-nil is.entries))) sure
             (told_leaves_weaker tells (untold areas) (meaning.story (disk_in store)) (ReopensTo rules (state_of birth_there rules is.entries)) (ReopensAmid birth_there rules is.entries deeds)
@@ -162,9 +162,9 @@ module _
               (subst (λ (o : O). Prints (show_text totals) fault (course old.output) (course o)) gave prints);
           after = disk;
           handed_back = refl;
-          stands = subst (λ (u : Option Recorded). OnTrue meaning.tells ((image : Areas) → IsImage (story disk) image → MayStandFor (birth_in store) is.entries u image)) is.sure
+          stands = subst (λ (u : Option Recorded). OnTrue meaning.tells ((image : Areas) → IsImage (meaning.story disk) image → MayStandFor (birth_in store) is.entries u image)) is.sure
               (closes (birth_in store) is.entries is.holds);
-          stops = subst (λ (d : D). OnTrue meaning.tells (LeavesOnly (untold areas) (story d) (ReopensTo rules (state_of (birth_in store) rules is.entries)))) (sym same)
+          stops = subst (λ (d : D). OnTrue meaning.tells (LeavesOnly (untold areas) (meaning.story d) (ReopensTo rules (state_of (birth_in store) rules is.entries)))) (sym same)
               (opened_stops meaning areas found rules birth store new_disk is);
           unfailed = ap meaning.faults same ∙ opened_unfailed meaning areas found rules birth store new_disk is;
           bounded = subst (λ (d : D). meaning.calls d ≤ 20) (sym same) (opened_calls meaning areas found rules birth store new_disk is);

@@ -103,9 +103,9 @@ module _ {D : Type 0} (meaning : Meaning D) where
     pub stored : done_of deeds ≡ accepts_in (with_last talks.talk.kept talks.talk.last)
     pub unsure : Option Recorded
     pub doubt : IfSome unsure (IsInDoubt deeds)
-    pub stands : OnTrue meaning.tells ((image : Areas) → IsImage (story disk) image → MayStandFor birth (entries ++ done_of deeds) unsure image)
-    pub stops : OnTrue meaning.tells ((image : Areas) → IsImage (story disk) image → MayReopen birth settings.rules (state_of birth settings.rules (entries ++ done_of deeds)) unsure image)
-    pub amid : OnTrue meaning.tells (LeavesOnly (untold areas) (story disk) (ReopensAmid birth settings.rules entries deeds))
+    pub stands : OnTrue meaning.tells ((image : Areas) → IsImage (meaning.story disk) image → MayStandFor birth (entries ++ done_of deeds) unsure image)
+    pub stops : OnTrue meaning.tells ((image : Areas) → IsImage (meaning.story disk) image → MayReopen birth settings.rules (state_of birth settings.rules (entries ++ done_of deeds)) unsure image)
+    pub amid : OnTrue meaning.tells (LeavesOnly (untold areas) (meaning.story disk) (ReopensAmid birth settings.rules entries deeds))
     pub counted : CountsFaults 0 (meaning.faults disk) deeds
     pub bounded : meaning.calls disk ≤ 20 + 6 * length deeds
     pub failed : fault ≡ fault_by (is_some unsure) end

@@ -173,10 +173,10 @@ module _ {D : Type 0} (meaning : Meaning D) where
     pub unsure_is : unsure ≡ unsure_in closed
     pub doubt : IfSome unsure (IsInDoubt rules number deeds)
     pub rose : IfSome unsure (λ _. Rose 0 (meaning.faults disk))
-    pub stands : OnTrue meaning.tells ((image : Areas) → IsImage (story disk) image → MayStandFor birth (entries ++ recorded_in rules number deeds) unsure image)
-    pub stops : OnTrue meaning.tells ((image : Areas) → IsImage (story disk) image → MayReopen birth rules (state_of birth rules (entries ++ recorded_in rules number deeds)) unsure image)
+    pub stands : OnTrue meaning.tells ((image : Areas) → IsImage (meaning.story disk) image → MayStandFor birth (entries ++ recorded_in rules number deeds) unsure image)
+    pub stops : OnTrue meaning.tells ((image : Areas) → IsImage (meaning.story disk) image → MayReopen birth rules (state_of birth rules (entries ++ recorded_in rules number deeds)) unsure image)
     pub reports : HaveReports birth (state_of birth rules entries) (recorded_in rules number deeds) (state_in closed)
-    pub amid : OnTrue meaning.tells (LeavesOnly (untold areas) (story disk) (ReopensAmid rules number birth entries deeds))
+    pub amid : OnTrue meaning.tells (LeavesOnly (untold areas) (meaning.story disk) (ReopensAmid rules number birth entries deeds))
     pub bounded : meaning.calls disk ≤ 20 + 6 * length deeds
 
 -- a fault of the disk is told only where its count rose

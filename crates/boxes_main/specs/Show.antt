@@ -57,8 +57,8 @@ module _ {D : Type 0} (meaning : Meaning D) where
     pub prints : Prints (show_text (totals_of (state_of birth rules entries))) fault old new
     pub after : D
     pub handed_back : disk ≡ Some after
-    pub stands : OnTrue meaning.tells ((image : Areas) → IsImage (story after) image → MayStandFor birth entries None image)
-    pub stops : OnTrue meaning.tells (LeavesOnly (untold areas) (story after) (ReopensTo rules (state_of birth rules entries)))
+    pub stands : OnTrue meaning.tells ((image : Areas) → IsImage (meaning.story after) image → MayStandFor birth entries None image)
+    pub stops : OnTrue meaning.tells (LeavesOnly (untold areas) (meaning.story after) (ReopensTo rules (state_of birth rules entries)))
     pub unfailed : meaning.faults after ≡ 0
     pub bounded : meaning.calls after ≤ 20
 
