@@ -119,8 +119,8 @@ module _
       (leads.1.state ∙ ap (λ b. state_behind b (state_in a) (entry_of deed) deed.outcome) born ∙ ap (λ s. state_behind birth s (entry_of deed) deed.outcome) state
       ∙ state_next birth rules entries earlier deed)
       (in_doubt_more earlier deed (unsure_in a) (unsure_in leads.0) doubt leads.1.unsure)
-      (told_leaves_both tells first (meaning.story (disk_in a)) (meaning.story (disk_in leads.0)) (ReopensAmid birth rules entries all) so_far
-      (told_leaves_weaker tells (meaning.story (disk_in a)) (meaning.story (disk_in leads.0)) (MayReopenIn (birth_in a) (rules_in a) (state_in a) (unsure_in a) (entry_of deed)) (ReopensAmid birth rules entries all)
+      (told_leaves_both meaning.tells first (meaning.story (disk_in a)) (meaning.story (disk_in leads.0)) (ReopensAmid birth rules entries all) so_far
+      (told_leaves_weaker meaning.tells (meaning.story (disk_in a)) (meaning.story (disk_in leads.0)) (MayReopenIn (birth_in a) (rules_in a) (state_in a) (unsure_in a) (entry_of deed)) (ReopensAmid birth rules entries all)
       (amid_one birth rules entries all earlier deed deeds split (birth_in a) (rules_in a) (state_in a) (unsure_in a) born ruled state doubt) leads.1.stops))
       leads.2
 

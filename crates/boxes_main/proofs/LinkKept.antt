@@ -253,7 +253,7 @@ module _ {D : Type 0} (meaning : Meaning D) (rules : Rules) (link : ℕ) where
     behind_still : (deeds : List Deed) (deed : Deed) (old new : Store D) → Behind deeds old → Stays deed old new → Behind (deed ∷ deeds) new
     behind_still deeds deed old new was stays =
         let fewer = was.bounded in
-        let same : meaning.calls (disk_in new) ≡ meaning.calls (disk_in old) = ap calls stays.disk in
+        let same : meaning.calls (disk_in new) ≡ meaning.calls (disk_in old) = ap meaning.calls stays.disk in
         record {
           ruled = stays.ruled ∙ was.ruled;
           born = stays.born ∙ was.born;
@@ -261,7 +261,7 @@ module _ {D : Type 0} (meaning : Meaning D) (rules : Rules) (link : ℕ) where
               (stays.holds birth (entries ++ recorded_in rules link deeds) was.holds);
           doubt = still_doubt deeds deed (unsure_in new) stays.none
               (subst (λ (u : Option Recorded). IfSome u (IsInDoubt rules link deeds)) (sym stays.unsure) was.doubt);
-          amid = told_leaves_weaker tells first (meaning.story (disk_in new)) (ReopensAmid rules link birth entries deeds) (ReopensAmid rules link birth entries (deed ∷ deeds))
+          amid = told_leaves_weaker meaning.tells first (meaning.story (disk_in new)) (ReopensAmid rules link birth entries deeds) (ReopensAmid rules link birth entries (deed ∷ deeds))
               (still_amid birth entries deeds deed)
               (subst (λ (d : D). OnTrue meaning.tells (LeavesOnly first (meaning.story d) (ReopensAmid rules link birth entries deeds))) (sym stays.disk) was.amid);
           rose = subst (λ (d : D). IfSome (unsure_in new) (λ _. Rose 0 (meaning.faults d))) (sym stays.disk)
@@ -281,10 +281,10 @@ module _ {D : Type 0} (meaning : Meaning D) (rules : Rules) (link : ℕ) where
           holds = subst (λ x. IsStore meaning new birth x) (more_entries deeds deed (put_behind moves.kept moves.outcome) moves.records)
               (moves.does_.holds birth (entries ++ recorded_in rules link deeds) was.holds);
           doubt = now_doubt deeds deed (unsure_in old) (unsure_in new) moves.kept moves.outcome moves.records moves.asked moves.failed was.doubt moves.does_.unsure;
-          amid = told_leaves_both tells first (meaning.story (disk_in old)) (meaning.story (disk_in new)) (ReopensAmid rules link birth entries (deed ∷ deeds))
-              (told_leaves_weaker tells first (meaning.story (disk_in old)) (ReopensAmid rules link birth entries deeds) (ReopensAmid rules link birth entries (deed ∷ deeds))
+          amid = told_leaves_both meaning.tells first (meaning.story (disk_in old)) (meaning.story (disk_in new)) (ReopensAmid rules link birth entries (deed ∷ deeds))
+              (told_leaves_weaker meaning.tells first (meaning.story (disk_in old)) (ReopensAmid rules link birth entries deeds) (ReopensAmid rules link birth entries (deed ∷ deeds))
               (still_amid birth entries deeds deed) was.amid)
-              (told_leaves_weaker tells (meaning.story (disk_in old)) (meaning.story (disk_in new)) (MayReopenIn (birth_in old) (rules_in old) (state_in old) (unsure_in old) moves.kept)
+              (told_leaves_weaker meaning.tells (meaning.story (disk_in old)) (meaning.story (disk_in new)) (MayReopenIn (birth_in old) (rules_in old) (state_in old) (unsure_in old) moves.kept)
               (ReopensAmid rules link birth entries (deed ∷ deeds))
               (in_call birth entries deeds deed (birth_in old) (rules_in old) (state_in old) (unsure_in old) moves.kept was.born was.ruled settled was.doubt moves.asked) moves.does_.stops);
           rose = rose_now (unsure_in old) (unsure_in new) moves.kept moves.outcome (meaning.faults (disk_in old)) (meaning.faults (disk_in new)) was.rose moves.does_.unsure moves.does_.counted;
@@ -319,7 +319,7 @@ module _ {D : Type 0} (meaning : Meaning D) (rules : Rules) (link : ℕ) where
         born = refl;
         holds = subst (λ es. IsStore meaning opened (birth_in opened) es) (sym (append-nil is.entries)) is.holds;
         doubt = subst (λ (u : Option Recorded). IfSome u (IsInDoubt rules link [])) (sym is.sure) tt;
-        amid = told_leaves_weaker tells (untold areas) (meaning.story (disk_in opened)) (ReopensTo rules (state_of (birth_in opened) rules is.entries)) (ReopensAmid rules link (birth_in opened) is.entries [])
+        amid = told_leaves_weaker meaning.tells (untold areas) (meaning.story (disk_in opened)) (ReopensTo rules (state_of (birth_in opened) rules is.entries)) (ReopensAmid rules link (birth_in opened) is.entries [])
             (λ image reopens. record {
               front = [];
               since = [];

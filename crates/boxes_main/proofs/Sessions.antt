@@ -43,7 +43,7 @@ use Rattle.boxes_main.proofs.Answered.{talk_done}
 use Rattle.boxes_main.proofs.Doubts.{in_doubt}
 
 -- a fact that follows from three, where something is told
-told_three : (tells : Bool) (P Q R S : Type 0) → (P → Q → R → S) → OnTrue meaning.tells P → OnTrue meaning.tells Q → OnTrue meaning.tells R → OnTrue meaning.tells S
+told_three : (tells : Bool) (P Q R S : Type 0) → (P → Q → R → S) → OnTrue tells P → OnTrue tells Q → OnTrue tells R → OnTrue tells S
 told_three true P Q R S f p q r = f p q r
 told_three false P Q R S f p q r = tt
 
@@ -128,7 +128,7 @@ module _ {D : Type 0} (meaning : Meaning D) where
         amid = subst (λ (d : D). OnTrue meaning.tells (LeavesOnly (untold areas) (meaning.story d) (ReopensAmid birth_there rules is.entries deeds))) (sym same)
             (amid meaning birth_there rules is.entries deeds (untold areas) [] deeds store later refl refl is.ruled
             (is.state ∙ ap (state_of birth_there rules) (sym (append-nil is.entries))) sure
-            (told_leaves_weaker tells (untold areas) (meaning.story (disk_in store)) (ReopensTo rules (state_of birth_there rules is.entries)) (ReopensAmid birth_there rules is.entries deeds)
+            (told_leaves_weaker meaning.tells (untold areas) (meaning.story (disk_in store)) (ReopensTo rules (state_of birth_there rules is.entries)) (ReopensAmid birth_there rules is.entries deeds)
             (amid_first birth_there rules is.entries deeds) (opened_stops meaning areas found rules birth store new_disk is)) led);
         counted = counted_by (meaning.faults (disk_in store)) (meaning.faults (disk_in later)) (meaning.faults disk) deeds
             (opened_unfailed meaning areas found rules birth store new_disk is) (ap meaning.faults same) counts;
