@@ -1,5 +1,6 @@
 pub mod Doings
 pub mod Endings
+pub mod Events
 pub mod Exchanges
 pub mod Falling
 pub mod Looking

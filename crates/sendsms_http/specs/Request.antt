@@ -11,7 +11,7 @@ use Rattle.sendsms_form.specs.declared.form.Form.{Form}
 use Rattle.sendsms_form.specs.declared.pairs.Pair.{Pair}
 use Rattle.sendsms_form.specs.Form.{form_of}
 use Rattle.sendsms_form.specs.Pairs.{pairs}
-use Rattle.sendsms_parts.specs.Messages.{messages_of}
+use Rattle.sendsms_form.specs.Messages.{messages_of}
 use Rattle.sms_record.specs.declared.address.Address.{Address}
 use Rattle.sendsms_http.specs.Target.{is_path, path_of, query_of}
 use Rattle.sendsms_http.specs.Users.{user_of}

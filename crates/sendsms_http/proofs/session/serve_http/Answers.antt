@@ -117,7 +117,7 @@ loop-peer-preserved-in-Submit g c =
       };
       most = next.budget ∙ i.most;
       due = handed g.A.Acceptor.leads g.A.Acceptor.faults g.A.Acceptor.can_submit c.args.settings.now c.args.acceptor.now start (readings c.args.clock.now)
-          g.met.A.Acceptor.leads_on visit c.in-Submit.time c.in-Submit.parts.items c.submit.result (course c.loop-peer.peer) (readings c.now.new.self) c.loop-peer.acceptor c.submit.new.self
+          g.met.A.Acceptor.leads_nowhere g.met.A.Acceptor.leads_on visit c.in-Submit.time c.in-Submit.parts.items c.submit.result (course c.loop-peer.peer) (readings c.now.new.self) c.loop-peer.acceptor c.submit.new.self
           hands c.submit.ensures.deed c.submit.ensures.disk c.submit.ensures.spared c.submit.ensures.kept c.submit.ensures.ready;
     }
 
