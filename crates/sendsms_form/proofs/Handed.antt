@@ -1,17 +1,16 @@
 -- The messages of a form may be handed to a store.
-use Rattle.std.proofs.Common.{◌≡◌, ℕ, suc, ◌+◌, ◌*◌, ◌<◌, ◌≤◌, ◌^◌, List, [], ◌∷◌, ◌++◌, length, map, All, Result, Ok, Err, refl, sym, ap, subst, ◌∙◌, arith, length-append}
+use Rattle.std.proofs.Common.{◌≡◌, ℕ, suc, ◌+◌, ◌*◌, ◌<◌, ◌≤◌, ◌^◌, List, [], ◌∷◌, ◌++◌, length, map, All, refl, ap, arith, length-append}
 use Rattle.std.specs.Prelude.{sum_by}
-use Rattle.std.specs.List.{flat_map, AllByRecursion}
+use Rattle.std.specs.List.{AllByRecursion}
 use Rattle.std.proofs.lemmas.List.Elements.{All-nil, All-cons, All-head, All-tail, All-append, All-weaker}
 use Rattle.std.proofs.lemmas.List.Sums.{sum_by-cons}
 use Rattle.concat_split.specs.declared.part.Part.{Part}
 use Rattle.concat_split.specs.Kept.{IsPart, AreParts, message_octets}
-use Rattle.concat_split.specs.Parts.{parts_of}
 use Rattle.config_groups.specs.Ranges.{IsUser}
 use Rattle.config_groups.specs.declared.settings.user.User.{User}
 use Rattle.config_values.specs.Forms.{IsWithin}
 use Rattle.gate_model.specs.Acceptor.{MayBeHanded}
-use Rattle.http_text.specs.declared.answer.Answer.{Answer}
+use Rattle.sendsms_form.proofs.Ranges.{sent_is}
 use Rattle.sendsms_form.specs.declared.form.Form.{Form}
 use Rattle.sendsms_form.specs.Ranges.{IsForm, IsReceiver}
 use Rattle.sendsms_form.specs.Messages.{limits_of, message, to_each}
@@ -109,27 +108,9 @@ small_message user form now receiver part u f below r p =
     let small = body_small form.model.coding part.body octets in
     let most : user.max_messages ≤ 100 = u.max_messages.1 in
     let few : part.total ≤ user.max_messages = p.few in
-    let i = f.model.sms in
     record {
-      is = record {
-        sender = i.sender;
-        receiver = receiver_is receiver r;
-        class = i.class;
-        total = omega (arith, most, few);
-        part = p.among;
-        mask = i.mask;
-        validity = i.validity;
-        deferred = i.deferred;
-        time = below;
-        udh_len = i.udh_len;
-        udh = i.udh;
-        body_len = omega (arith, small);
-        body = p.coded;
-        smsc = i.smsc;
-        url = i.url;
-        account = i.account;
-        service = i.service;
-      };
+      is = sent_is form.model receiver part.body part.total part.part now f.model.sms (receiver_is receiver r) (omega (arith, most, few)) p.among below
+          (omega (arith, small)) p.coded;
       udh = f.model.udh_len;
       body = small;
     }

@@ -1,5 +1,5 @@
 -- Messages are put one after the other.
-use Rattle.std.proofs.Common.{◌≡◌, ℕ, ◌+◌, ◌<◌, List, [], ◌∷◌, ◌++◌, length, take, map, get_or, ◌∙◌, refl, sym, ap, append_assoc}
+use Rattle.std.proofs.Common.{◌≡◌, ℕ, ◌+◌, ◌<◌, List, [], ◌∷◌, ◌++◌, length, take, map, get_or, ◌∙◌, sym, ap, append_assoc}
 use Rattle.std.proofs.lemmas.List.{take_more, flat_map_more, map_more}
 use Rattle.std.specs.List.{flat_map}
 

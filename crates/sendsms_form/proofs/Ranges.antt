@@ -1,5 +1,6 @@
 -- What a form that was read lies within.
-use Rattle.std.proofs.Common.{◌≡◌, ℕ, zero, suc, ◌+◌, ◌*◌, ◌%◌, ◌<◌, ◌≤◌, Bool, true, false, ◌&&◌, ◌==◌, nat_le, cond, leb, eqb, List, [], ◌∷◌, ◌++◌, length, take, drop, map, chars, codes, All, Option, Some, None, IfSome, IfOk, ⊤, Result, Ok, Err, refl, sym, ap, subst, ◌∙◌, arith, inl, inr, length-append}
+use Rattle.std.proofs.Common.{◌≡◌, ℕ, zero, suc, ◌*◌, ◌%◌, ◌^◌, ◌<◌, ◌≤◌, Bool, true, false, cond, leb, List, [], ◌∷◌, ◌++◌, length, take, drop, map, chars, All, Option, Some, None, IfSome, IfOk, Result, Ok, Err, refl, sym, ap, subst, ◌∙◌, arith, inl, inr, length-append}
+use Rattle.std.specs.Prelude.{⊤}
 use Rattle.std.proofs.lemmas.Bool.{and_parts, cases_Bool, leb-true, eqb-true, false≢true}
 use Rattle.std.proofs.lemmas.List.{take-append-drop, length-take-le}
 use Rattle.std.proofs.lemmas.List.Elements.{All-nil, All-cons, All-append}
@@ -17,24 +18,23 @@ use Rattle.sms_record.specs.declared.address.Address.{Address}
 use Rattle.sms_record.specs.declared.coding.Coding.{Coding}
 use Rattle.sms_record.specs.declared.coding.Coding.TheVariants.{Seven, Eight, Ucs2}
 use Rattle.sms_record.specs.Limits.{most_digits}
-use Rattle.sms_record.specs.Header.{Element, element, elements, header, IsHeaderOrNone}
+use Rattle.sms_record.specs.Header.{Element, element, elements, IsHeaderOrNone}
 use Rattle.sms_record.specs.Record.{IsOfCoding}
 use Rattle.config_groups.specs.declared.settings.user.User.{User}
 use Rattle.config_groups.specs.Ranges.{IsUser}
-use Rattle.config_values.specs.Values.{is_within, is_number_within, number_of, behind_plus}
+use Rattle.config_values.specs.Values.{is_number_within, number_of, behind_plus}
 use Rattle.config_values.specs.Forms.{IsWithin, IsSender}
 use Rattle.config_values.proofs.Forms as forms
 use Rattle.http_text.specs.declared.answer.Answer.{Answer}
-use Rattle.sms_record.specs.Limits.{last_class, most_mask, most_minutes, most_name, most_url}
-use Rattle.sms_record.specs.Record.{IsSms}
+use Rattle.sms_record.specs.Limits.{last_class, most_body, most_mask, most_minutes, most_name, most_url}
+use Rattle.sms_record.specs.Record.{IsAddress, IsSms}
 use Rattle.sms_record.specs.declared.sms.Sms.{Sms}
 use Rattle.http_text.specs.declared.answer.spot.Spot.{Spot}
 use Rattle.http_text.specs.declared.answer.spot.Spot.TheVariants.{To, From, Mclass, Udh, Smsc, Validity, Deferred, DlrMask, DlrUrl, Account}
 use Rattle.http_text.specs.declared.answer.spot.Spot.TheVariants as spots
 use Rattle.sendsms_form.specs.declared.form.Form.{Form}
 use Rattle.sendsms_form.specs.declared.pairs.Pair.{Pair}
-use Rattle.sendsms_form.specs.Pairs.{value}
-use Rattle.sendsms_form.specs.Variables.{right, behind, number_in, number_given, number, or_zero, octets_in, octets, words, is_number, address_of, are_receivers, addresses_in, sender_by, coding_by, behind_element, fill, is_header, is_udh, header_in, first_of, mask_by, is_text_in, is_body_in, septets, ucs2, body_in, body_of}
+use Rattle.sendsms_form.specs.Variables.{value_of, right, behind, number_in, number_given, number, or_zero, octets_in, octets, words, is_number, address_of, are_receivers, addresses_in, sender_by, coding_by, fill, is_header, is_udh, header_in, first_of, mask_by, is_body_in, body_in, body_of}
 use Rattle.sendsms_form.specs.Form.{receivers_of, sender_of, coding_of, class_of, charset_for, udh_of, manner_of, smsc_by, smsc_of, delivery_of, reports_of, blank, model_of, text_of, form_of}
 use Rattle.sendsms_form.specs.Ranges.{IsReceiver, IsModel, IsForm}
 
@@ -72,32 +72,32 @@ number_in_is least most (octet ∷ octets) =
     (λ is. (forms.number least most (octet ∷ octets) is).1)
 
 -- a row of numbers
-number_given_is : (name : List ℕ) (spot : Spot) (least most : ℕ) (given : List Pair)
-    → IfOk (number_given name spot least most given) (λ number. IfSome number (λ n. n ≤ most))
-number_given_is name spot least most given =
-    right_is spot (number_in least most (value name given)) (λ number. IfSome number (λ n. n ≤ most)) (number_in_is least most (value name given))
+number_given_is : (spot : Spot) (least most : ℕ) (given : List Pair)
+    → IfOk (number_given spot least most given) (λ number. IfSome number (λ n. n ≤ most))
+number_given_is spot least most given =
+    right_is spot (number_in least most (value_of spot given)) (λ number. IfSome number (λ n. n ≤ most)) (number_in_is least most (value_of spot given))
 
 or_zero_is : (most : ℕ) (number : Option ℕ) → IfSome number (λ n. n ≤ most) → or_zero number ≤ most
 or_zero_is most None h = omega arith
 or_zero_is most (Some number) h = h
 
-number_is : (name : List ℕ) (spot : Spot) (least most : ℕ) (given : List Pair) → IfOk (number name spot least most given) (λ n. n ≤ most)
-number_is name spot least most given =
-    behind_is (number_given name spot least most given) (λ number. Ok (or_zero number)) (λ number. IfSome number (λ n. n ≤ most)) (λ n. n ≤ most)
-    (number_given_is name spot least most given) (or_zero_is most)
+number_is : (spot : Spot) (least most : ℕ) (given : List Pair) → IfOk (number spot least most given) (λ n. n ≤ most)
+number_is spot least most given =
+    behind_is (number_given spot least most given) (λ number. Ok (or_zero number)) (λ number. IfSome number (λ n. n ≤ most)) (λ n. n ≤ most)
+    (number_given_is spot least most given) (or_zero_is most)
 
 abbrev IsShort : (most : ℕ) → List ℕ → Type 0
 IsShort most octets = length octets ≤ most
 
 -- a row of octets
-octets_is : (name : List ℕ) (spot : Spot) (most : ℕ) (given : List Pair) → IfOk (octets name spot most given) (IsShort most)
-octets_is name spot most given =
-    right_is spot (octets_in most (value name given)) (IsShort most)
-    (tested (leb (length (value name given)) most) (value name given) (IsShort most) (λ is. leb-true (length (value name given)) most is))
+octets_is : (spot : Spot) (most : ℕ) (given : List Pair) → IfOk (octets spot most given) (IsShort most)
+octets_is spot most given =
+    right_is spot (octets_in most (value_of spot given)) (IsShort most)
+    (tested (leb (length (value_of spot given)) most) (value_of spot given) (IsShort most) (λ is. leb-true (length (value_of spot given)) most is))
 
 -- ---- to, from
 
-receiver : (word : List ℕ) → is_address_of word ≡ true → IsReceiver (address_of word)
+receiver : (word : List ℕ) → is_number word ≡ true → IsReceiver (address_of word)
 receiver word is =
     let form = forms.digits most_digits (behind_plus word) is in
     (form.0.0, form.0.1, form.1)
@@ -105,7 +105,7 @@ receiver word is =
 each_receiver : (all : List (List ℕ)) → list_all is_number all ≡ true → All IsReceiver (map address_of all)
 each_receiver [] is = All-nil IsReceiver
 each_receiver (word ∷ rest) is =
-    let parts = and_parts (is_address_of word) (list_all is_number rest) is in
+    let parts = and_parts (is_number word) (list_all is_number rest) is in
     All-cons IsReceiver (address_of word) (map address_of rest) (receiver word parts.0) (each_receiver rest parts.1)
 
 length-addresses : (all : List (List ℕ)) → length (map address_of all) ≡ length all
@@ -241,32 +241,33 @@ blank_is sender service coding class charset udh s few c u =
 manner_is : (given : List Pair) (sender : Address) (service : List ℕ) → IsSender sender → IsShort 64 service → IfOk (manner_of given (blank sender service)) IsModel
 unfolding manner_of
 manner_is given sender service s few =
-    behind_is _ _ (λ n. ⊤) IsModel (any (coding_of given)) (λ number _.
-    behind_is _ _ (λ class. IfSome class (λ n. n ≤ last_class)) IsModel (number_given_is (codes "mclass") Mclass 0 last_class given) (λ class c.
-    behind_is _ _ (λ n. ⊤) IsModel (any (charset_for (coding_by number (value (codes "udh") given)) given)) (λ charset _.
-    behind_is _ _ IsUdh IsModel (right_is Udh (header_in (value (codes "udh") given)) IsUdh (udh_is (value (codes "udh") given))) (λ udh u.
-    blank_is sender service (coding_by number (value (codes "udh") given)) class charset udh s few c u))))
+    behind_is (coding_of given) _ (λ n. ⊤) IsModel (any (coding_of given)) (λ number _.
+    behind_is (class_of given) _ (λ class. IfSome class (λ n. n ≤ last_class)) IsModel (number_given_is Mclass 0 last_class given) (λ class c.
+    behind_is (charset_for (coding_by number (value_of Udh given)) given) _ (λ n. ⊤) IsModel (any (charset_for (coding_by number (value_of Udh given)) given)) (λ charset _.
+    behind_is (udh_of given) _ IsUdh IsModel (right_is Udh (header_in (value_of Udh given)) IsUdh (udh_is (value_of Udh given))) (λ udh u.
+    blank_is sender service (coding_by number (value_of Udh given)) class charset udh s few c u))))
 
 smsc_is : (user : User) (given : List Pair) → IsUser user → IfOk (smsc_of user given) (IsShort most_name)
 smsc_is user given u = by_forced user.forced_smsc u.forced_smsc
   where
-    by_forced : (forced : List ℕ) → IsShort 64 forced → IfOk (smsc_by forced user given) (IsShort most_name)
-    by_forced (octet ∷ octets) f = f
-    by_forced [] f =
-        behind_is _ _ (IsShort most_name) (IsShort most_name) (octets_is (codes "smsc") Smsc most_name given) (λ smsc s. first_is smsc s)
-
     first_is : (smsc : List ℕ) → IsShort most_name smsc → IsShort most_name (first_of smsc user.default_smsc)
     first_is [] s = u.default_smsc
     first_is (octet ∷ octets) s = s
 
+    by_forced : (forced : List ℕ) → IsShort 64 forced → IfOk (smsc_by forced user given) (IsShort most_name)
+    by_forced (octet ∷ octets) f = f
+    by_forced [] f =
+        behind_is (octets Smsc most_name given) (λ smsc. Ok (first_of smsc user.default_smsc)) (IsShort most_name) (IsShort most_name) (octets_is Smsc most_name given) (λ smsc s. first_is smsc s)
+
 delivery_is : (user : User) (given : List Pair) (sms : Sms) → IsUser user → IsModel sms → IfOk (delivery_of user given sms) IsModel
 unfolding delivery_of
 delivery_is user given sms u h =
-    behind_is _ _ (IsShort most_name) IsModel (smsc_is user given u) (λ smsc s.
-    behind_is _ _ (λ n. n ≤ most_minutes) IsModel (number_is (codes "validity") Validity 1 most_minutes given) (λ validity v.
-    behind_is _ _ (λ n. n ≤ most_minutes) IsModel (number_is (codes "deferred") Deferred 0 most_minutes given) (λ deferred d.
+    behind_is (smsc_of user given) _ (IsShort most_name) IsModel (smsc_is user given u) (λ smsc s.
+    behind_is (number Validity 1 most_minutes given) _ (λ n. n ≤ most_minutes) IsModel (number_is Validity 1 most_minutes given) (λ validity v.
+    behind_is (number Deferred 0 most_minutes given) _ (λ n. n ≤ most_minutes) IsModel (number_is Deferred 0 most_minutes given) (λ deferred d.
     let i = h.sms in
-    record { sms = record {
+    record {
+      sms = record {
         sender = i.sender;
         receiver = i.receiver;
         class = i.class;
@@ -284,7 +285,10 @@ delivery_is user given sms u h =
         url = i.url;
         account = i.account;
         service = i.service;
-      }; sender = h.sender; udh_len = h.udh_len })))
+      };
+      sender = h.sender;
+      udh_len = h.udh_len;
+    })))
 
 mask_is : (mask : ℕ) (url : List ℕ) → mask ≤ most_mask → mask_by mask url ≤ most_mask
 mask_is mask [] small = omega arith
@@ -293,11 +297,12 @@ mask_is mask (octet ∷ octets) small = small
 reports_is : (given : List Pair) (sms : Sms) → IsModel sms → IfOk (reports_of given sms) IsModel
 unfolding reports_of
 reports_is given sms h =
-    behind_is _ _ (λ n. n ≤ most_mask) IsModel (number_is (codes "dlr-mask") DlrMask 0 most_mask given) (λ mask m.
-    behind_is _ _ (IsShort most_url) IsModel (octets_is (codes "dlr-url") DlrUrl most_url given) (λ url l.
-    behind_is _ _ (IsShort most_name) IsModel (octets_is (codes "account") Account most_name given) (λ account a.
+    behind_is (number DlrMask 0 most_mask given) _ (λ n. n ≤ most_mask) IsModel (number_is DlrMask 0 most_mask given) (λ mask m.
+    behind_is (octets DlrUrl most_url given) _ (IsShort most_url) IsModel (octets_is DlrUrl most_url given) (λ url l.
+    behind_is (octets Account most_name given) _ (IsShort most_name) IsModel (octets_is Account most_name given) (λ account a.
     let i = h.sms in
-    record { sms = record {
+    record {
+      sms = record {
         sender = i.sender;
         receiver = i.receiver;
         class = i.class;
@@ -315,34 +320,61 @@ reports_is given sms h =
         url = l;
         account = a;
         service = i.service;
-      }; sender = h.sender; udh_len = h.udh_len })))
+      };
+      sender = h.sender;
+      udh_len = h.udh_len;
+    })))
+
+-- a message is one that a record keeps, whatever its receiver, body and time, where these are
+pub sent_is : (model : Sms) (receiver : Address) (body : List ℕ) (total part time : ℕ) → IsSms model → IsAddress receiver → total ≤ 100
+    → (1 ≤ part) × (part ≤ total) → time < 2 ^ 37 → length body ≤ most_body → IsOfCoding model.coding body
+    → IsSms (record model { receiver = receiver; body = body; total = total; part = part; time = time })
+sent_is model receiver body total part time i r many among below few coded = record {
+  sender = i.sender;
+  receiver = r;
+  class = i.class;
+  total = many;
+  part = among;
+  mask = i.mask;
+  validity = i.validity;
+  deferred = i.deferred;
+  time = below;
+  udh_len = i.udh_len;
+  udh = i.udh;
+  body_len = few;
+  body = coded;
+  smsc = i.smsc;
+  url = i.url;
+  account = i.account;
+  service = i.service;
+}
 
 -- ---- all together
 
 model_is : (user : User) (common : Option Address) (given : List Pair) → IsUser user → IfSome common IsSender → IfOk (model_of user common given) IsModel
 unfolding model_of
 model_is user common given u c =
-    behind_is _ _ IsSender IsModel
-    (right_is From (sender_by user.faked_sender (value (codes "from") given) user.default_sender common) IsSender
-    (sender_is user.faked_sender (value (codes "from") given) user.default_sender common u.faked_sender u.default_sender c)) (λ sender s.
-    behind_is _ _ IsModel IsModel (manner_is given sender user.name s u.name.1) (λ sms m.
-    behind_is _ _ IsModel IsModel (delivery_is user given sms u m) (λ sms d.
+    behind_is (sender_of user common given) _ IsSender IsModel
+    (right_is From (sender_by user.faked_sender (value_of From given) user.default_sender common) IsSender
+    (sender_is user.faked_sender (value_of From given) user.default_sender common u.faked_sender u.default_sender c)) (λ sender s.
+    behind_is (manner_of given (blank sender user.name)) _ IsModel IsModel (manner_is given sender user.name s u.name.1) (λ sms m.
+    behind_is (delivery_of user given sms) _ IsModel IsModel (delivery_is user given sms u m) (λ sms d.
     reports_is given sms d)))
 
 text_is : (model : Sms) (given : List Pair) → IfOk (text_of model given) (IsOfCoding model.coding)
 text_is model given =
-    right_is spots.Text (body_of model.coding model.charset (value (codes "text") given)) (IsOfCoding model.coding)
-    (body_is model.coding model.charset (value (codes "text") given))
+    right_is spots.Text (body_of model.coding model.charset (value_of spots.Text given)) (IsOfCoding model.coding)
+    (body_is model.coding model.charset (value_of spots.Text given))
 
 -- the form of a user's request lies within the ranges of its table
 form_within : (user : User) (common : Option Address) (given : List Pair) → IsUser user → IfSome common IsSender
     → IfOk (form_of user common given) IsForm
 unfolding form_of
 form_within user common given u c =
-    behind_is _ _ AreReceivers IsForm
-    (right_is To (addresses_in (value (codes "to") given)) AreReceivers (addresses_are (value (codes "to") given))) (λ receivers r.
-    behind_is _ _ IsModel IsForm (model_is user common given u c) (λ model m.
-    behind_is _ _ (IsOfCoding model.coding) IsForm (text_is model given) (λ body b.
+    behind_is (receivers_of given) _ AreReceivers IsForm
+    (right_is To (addresses_in (value_of To given)) AreReceivers (addresses_are (value_of To given))) (λ receivers r.
+    behind_is (model_of user common given) _ IsModel IsForm (model_is user common given u c) (λ model m.
+    behind_is (text_of model given) _ (IsOfCoding model.coding) IsForm (text_is model given) (λ body b.
     record { many = r.0; receivers = r.1; model = m; body = b })))
 
 pub form_is : (user : User) (common : Option Address) (given : List Pair) (form : Form) → IsUser user → IfSome common IsSender

@@ -1,5 +1,5 @@
 -- The texts of a user's settings, brought into a coding.
-use Rattle.std.proofs.Common.{◌≡◌, ℕ, ◌+◌, ◌*◌, ◌<◌, ◌≤◌, ◌^◌, true, List, [], ◌∷◌, ◌++◌, length, chars, Option, Some, None, IsUtf8, refl, sym, ap, ◌∙◌, arith, length-append}
+use Rattle.std.proofs.Common.{◌≡◌, ℕ, ◌+◌, ◌*◌, ◌≤◌, true, List, [], ◌∷◌, length, chars, Option, Some, None, IsUtf8, refl, sym, ◌∙◌, arith, length-append}
 use Rattle.std.proofs.lemmas.Bool.{cond_both}
 use Rattle.std.proofs.lemmas.Str.{is_utf8-from_IsUtf8}
 use Rattle.std.specs.Prelude.{position, ◌==◌, ◌-◌, ◌/◌, ◌%◌, nat_lt}
@@ -16,7 +16,7 @@ use Rattle.gsm_alphabet.specs.Alphabet.{septets_of, septets_at, question_mark, e
 use Rattle.gsm_alphabet.specs.Ucs2.{ucs2_of}
 use Rattle.kn_base.specs.declared.charset.Charset.TheVariants.{Utf8}
 use Rattle.sendsms_form.proofs.Ranges.{coded}
-use Rattle.sendsms_form.specs.Variables.{is_body_in, body_in, body_of, septets, ucs2}
+use Rattle.sendsms_form.specs.Variables.{is_body_in, body_in, body_of}
 use Rattle.sendsms_form.specs.Messages.{limits_of}
 use Rattle.sms_record.specs.Record.{IsOfCoding}
 use Rattle.sms_record.specs.declared.coding.Coding.{Coding}

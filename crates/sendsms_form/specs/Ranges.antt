@@ -1,10 +1,11 @@
 -- What a form that was read lies within, to be read beside the table of docs/FORMATS.md. Bounds are counted in.
-use Rattle.std.specs.Prelude.{ℕ, ◌≤◌, List, length, All}
+use Rattle.std.specs.Prelude.{◌≤◌, length, All}
 use Rattle.sms_record.specs.declared.address.Address.{Address}
 use Rattle.sms_record.specs.declared.address.Address.TheVariants.{Number, Text}
 use Rattle.sms_record.specs.declared.sms.Sms.{Sms}
 use Rattle.sms_record.specs.Record.{IsAddress, IsOfCoding, IsSms}
 use Rattle.config_values.specs.Forms.{IsWithin, IsSender}
+use Rattle.sendsms_form.specs.Variables.{most_receivers, most_udh}
 use Rattle.sendsms_form.specs.declared.form.Form.{Form}
 
 -- a receiver is a number
@@ -17,10 +18,10 @@ IsReceiver (Text octets) = ⊥
 pub record IsModel (model : Sms) : Type 0 where
   pub sms : IsSms model
   pub sender : IsSender model.sender
-  pub udh_len : length model.udh ≤ 60
+  pub udh_len : length model.udh ≤ most_udh
 
 pub record IsForm (form : Form) : Type 0 where
-  pub many : IsWithin 1 50 (length form.receivers)
+  pub many : IsWithin 1 most_receivers (length form.receivers)
   pub receivers : All IsReceiver form.receivers
   pub model : IsModel form.model
   pub body : IsOfCoding form.model.coding form.body

@@ -1,9 +1,10 @@
 -- What the variables of a request may hold, and what they are read as. None stands for what a variable may not hold. A variable without a
--- value is one that isn't there, but for `to` and `text`. Which variable holds what is a row of Form.antt.
+-- value is one that isn't there, but for `to` and `text`. Which variable holds what is a row of Form.antt; its name is that of its spot.
 use Rattle.std.specs.Prelude.{ℕ, zero, suc, Bool, true, false, ◌&&◌, ◌==◌, ◌%◌, nat_le, List, [], ◌∷◌, length, drop, map, filter, chars, codes, Option, Some, None, Result, Ok, Err, if◌then◌else◌}
 use Rattle.std.specs.List.{list_all, slice_split, flat_map}
 use Rattle.std.specs.Option.{option_or}
 use Rattle.std.specs.Str.{is_utf8, str_eq_ignore_ascii_case}
+use Rattle.http_text.specs.Answer.{spot_name}
 use Rattle.http_text.specs.declared.answer.Answer.{Answer}
 use Rattle.http_text.specs.declared.answer.Answer.TheVariants.{BadRequest}
 use Rattle.http_text.specs.declared.answer.spot.Spot.{Spot}
@@ -23,6 +24,10 @@ use Rattle.sendsms_form.specs.Pairs.{value}
 
 -- ---- the forms of variables
 
+-- the value of a variable, nothing where it isn't there
+abbrev pub value_of : Spot → List Pair → List ℕ
+value_of spot given = value (spot_name spot) given
+
 -- what a variable holds, or the answer that calls it wrong
 abbrev pub right : {X : Type 0} → Spot → Option X → Result X Answer
 right spot None = Err (BadRequest spot)
@@ -39,24 +44,27 @@ number_in least most [] = Some None
 number_in least most (octet ∷ octets) =
     if is_number_within least most (octet ∷ octets) then Some (Some (number_of (octet ∷ octets))) else None
 
-abbrev pub number_given : (name : List ℕ) → Spot → (least most : ℕ) → List Pair → Result (Option ℕ) Answer
-number_given name spot least most given = right spot (number_in least most (value name given))
+abbrev pub number_given : Spot → (least most : ℕ) → List Pair → Result (Option ℕ) Answer
+number_given spot least most given = right spot (number_in least most (value_of spot given))
 
 abbrev pub or_zero : Option ℕ → ℕ
 or_zero None = 0
 or_zero (Some number) = number
 
-abbrev pub number : (name : List ℕ) → Spot → (least most : ℕ) → List Pair → Result ℕ Answer
-number name spot least most given = behind (number_given name spot least most given) (λ number. Ok (or_zero number))
+abbrev pub number : Spot → (least most : ℕ) → List Pair → Result ℕ Answer
+number spot least most given = behind (number_given spot least most given) (λ number. Ok (or_zero number))
 
 -- octets, at most so many
 abbrev pub octets_in : (most : ℕ) → List ℕ → Option (List ℕ)
 octets_in most value = if nat_le (length value) most then Some value else None
 
-abbrev pub octets : (name : List ℕ) → Spot → (most : ℕ) → List Pair → Result (List ℕ) Answer
-octets name spot most given = right spot (octets_in most (value name given))
+abbrev pub octets : Spot → (most : ℕ) → List Pair → Result (List ℕ) Answer
+octets spot most given = right spot (octets_in most (value_of spot given))
 
 -- ---- to: 1 to 50 numbers with spaces between them
+
+abbrev pub most_receivers : ℕ
+most_receivers = 50
 
 abbrev pub is_space : ℕ → Bool
 is_space octet = octet == 32
@@ -73,7 +81,7 @@ abbrev pub address_of : List ℕ → Address
 address_of word = Number (has_plus word) (behind_plus word)
 
 abbrev pub are_receivers : List ℕ → Bool
-are_receivers value = is_within 1 50 (length (words value)) && list_all is_number (words value)
+are_receivers value = is_within 1 most_receivers (length (words value)) && list_all is_number (words value)
 
 abbrev pub addresses_in : List ℕ → Option (List Address)
 addresses_in value = if are_receivers value then Some (map address_of (words value)) else None
@@ -111,6 +119,9 @@ charset_of coding (octet ∷ octets) = charset_named (octet ∷ octets)
 
 -- ---- udh: at most 60 octets, well-formed (GSM 03.40 9.2.3.24)
 
+abbrev pub most_udh : ℕ
+most_udh = 60
+
 -- what stands behind an element, which is an identifier, a length and so many octets
 abbrev pub behind_element : List ℕ → Option (List ℕ)
 behind_element [] = None
@@ -133,7 +144,7 @@ is_header [] = true
 is_header (count ∷ rest) = (count == length rest) && fill (length rest) rest
 
 abbrev pub is_udh : List ℕ → Bool
-is_udh value = nat_le (length value) 60 && is_header value
+is_udh value = nat_le (length value) most_udh && is_header value
 
 abbrev pub header_in : List ℕ → Option (List ℕ)
 header_in value = if is_udh value then Some value else None

@@ -7,7 +7,7 @@ ghost use Rattle.sendsms_form.specs.Form as form;
 ghost use Rattle.sendsms_form.specs.Variables as spec;
 
 use crate::Pair;
-use crate::pairs::value;
+use crate::variable::value_of;
 use config_groups::User;
 use config_values::{Grammar, holds, sender_of as sender_by_value};
 use http_text::{Answer, Spot};
@@ -24,7 +24,7 @@ pub(crate) fn receivers_of(alloc: Global, pairs: &[Pair]) -> Result<Items<Addres
     ensures ok { IfOk result (λ receivers. form.receivers_of pairs.now ≡ Ok receivers) }
     ensures err { IfErr result (λ answer. (answer ≡ Answer.OutOfMemory) ⊎ (form.receivers_of pairs.now ≡ Err answer)) }
 {
-    let value = value(pairs, b"to");
+    let value = value_of(pairs, Spot::To);
     if !are_receivers(value) {
         return Err(Answer::BadRequest(Spot::To));
     }
@@ -41,7 +41,7 @@ pub(crate) fn sender_of(
     ensures ok { IfOk result (λ sender. form.sender_of user.now common.now pairs.now ≡ Ok sender) }
     ensures err { IfErr result (λ answer. (answer ≡ Answer.OutOfMemory) ⊎ (form.sender_of user.now common.now pairs.now ≡ Err answer)) }
 {
-    let given = value(pairs, b"from");
+    let given = value_of(pairs, Spot::From);
     match sender_by(
         alloc,
         &user.faked_sender,

@@ -24,8 +24,8 @@ pub(crate) fn set_delivery(
     ensures err { IfErr result (λ answer. (answer ≡ Answer.OutOfMemory) ⊎ (spec.delivery_of user.now pairs.now sms.old ≡ Err answer)) }
 {
     let smsc = smsc_of(user, pairs)?;
-    sms.validity = number(pairs, b"validity", Spot::Validity, 1, MOST_MINUTES)?;
-    sms.deferred = number(pairs, b"deferred", Spot::Deferred, 0, MOST_MINUTES)?;
+    sms.validity = number(pairs, Spot::Validity, 1, MOST_MINUTES)?;
+    sms.deferred = number(pairs, Spot::Deferred, 0, MOST_MINUTES)?;
     sms.smsc = Octets::from_slice(alloc, smsc)?;
     Ok(())
 }
@@ -39,7 +39,7 @@ fn smsc_of<'a>(user: &'a User, pairs: &'a [Pair]) -> Result<&'a [u8], Answer>
     if !forced.is_empty() {
         return Ok(forced);
     }
-    let given = octets(pairs, b"smsc", Spot::Smsc, u64::from(MOST_NAME))?;
+    let given = octets(pairs, Spot::Smsc, u64::from(MOST_NAME))?;
     if given.is_empty() {
         Ok(user.default_smsc.as_slice())
     } else {

@@ -10,9 +10,9 @@ use crate::Pair;
 use crate::addresses::{receivers_of, sender_of};
 use crate::delivery::set_delivery;
 use crate::manner::set_manner;
-use crate::pairs::value;
 use crate::reports::set_reports;
 use crate::text::body_of;
+use crate::variable::value_of;
 use config_groups::User;
 use http_text::{Answer, Spot};
 use kn_base::{Charset, Items, Octets};
@@ -60,7 +60,12 @@ fn form_as_defined(
 {
     let receivers = receivers_of(alloc, pairs)?;
     let model = model_of(alloc, user, common, pairs)?;
-    match body_of(alloc, model.coding, model.charset, value(pairs, b"text"))? {
+    match body_of(
+        alloc,
+        model.coding,
+        model.charset,
+        value_of(pairs, Spot::Text),
+    )? {
         Some(body) => Ok(Form {
             receivers,
             model,

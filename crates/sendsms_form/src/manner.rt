@@ -6,8 +6,7 @@ ghost use Rattle.sendsms_form.specs.Variables as spec;
 
 use crate::Pair;
 use crate::header::is_header;
-use crate::pairs::value;
-use crate::variable::number_given;
+use crate::variable::{number_given, value_of};
 use http_text::{Answer, Spot};
 use kn_base::{Charset, Octets};
 use sms_record::limits::LAST_CLASS;
@@ -23,10 +22,10 @@ pub(crate) fn set_manner(alloc: Global, pairs: &[Pair], sms: &mut Sms) -> Result
     ensures ok { OnOk result (form.manner_of pairs.now sms.old ≡ Ok sms.new) }
     ensures err { IfErr result (λ answer. (answer ≡ Answer.OutOfMemory) ⊎ (form.manner_of pairs.now sms.old ≡ Err answer)) }
 {
-    let udh = value(pairs, b"udh");
-    sms.coding = coding_by(number_given(pairs, b"coding", Spot::Coding, 0, 2)?, udh);
-    sms.class = class_of(number_given(pairs, b"mclass", Spot::Mclass, 0, u64::from(LAST_CLASS))?);
-    let Some(charset) = charset_of(sms.coding, value(pairs, b"charset")) else {
+    let udh = value_of(pairs, Spot::Udh);
+    sms.coding = coding_by(number_given(pairs, Spot::Coding, 0, 2)?, udh);
+    sms.class = class_of(number_given(pairs, Spot::Mclass, 0, u64::from(LAST_CLASS))?);
+    let Some(charset) = charset_of(sms.coding, value_of(pairs, Spot::Charset)) else {
         return Err(Answer::BadRequest(Spot::Charset));
     };
     if !is_udh(udh) {

@@ -17,9 +17,9 @@ pub(crate) fn set_reports(alloc: Global, pairs: &[Pair], sms: &mut Sms) -> Resul
     ensures ok { OnOk result (spec.reports_of pairs.now sms.old ≡ Ok sms.new) }
     ensures err { IfErr result (λ answer. (answer ≡ Answer.OutOfMemory) ⊎ (spec.reports_of pairs.now sms.old ≡ Err answer)) }
 {
-    let mask = number(pairs, b"dlr-mask", Spot::DlrMask, 0, u64::from(MOST_MASK))?;
-    let url = octets(pairs, b"dlr-url", Spot::DlrUrl, MOST_URL)?;
-    let account = octets(pairs, b"account", Spot::Account, u64::from(MOST_NAME))?;
+    let mask = number(pairs, Spot::DlrMask, 0, u64::from(MOST_MASK))?;
+    let url = octets(pairs, Spot::DlrUrl, MOST_URL)?;
+    let account = octets(pairs, Spot::Account, u64::from(MOST_NAME))?;
     sms.mask = if url.is_empty() { 0 } else { mask as u8 };
     sms.url = Octets::from_slice(alloc, url)?;
     sms.account = Octets::from_slice(alloc, account)?;
