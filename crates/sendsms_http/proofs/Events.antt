@@ -1,5 +1,5 @@
 -- The events of a session, after each step.
-use Rattle.std.proofs.Common.{◌≡◌, ◌≢◌, ◌⊎◌, inl, inr, ℕ, ◌≤◌, Bool, List, [], ◌∷◌, ◌++◌, All, Err, refl, ap, sym, ◌∙◌, subst, append_assoc}
+use Rattle.std.proofs.Common.{◌≡◌, ◌⊎◌, inl, inr, ℕ, Bool, List, [], ◌∷◌, ◌++◌, All, refl, ap, sym, ◌∙◌, subst, append_assoc}
 use Rattle.std.proofs.lemmas.List.{append-nil}
 use Rattle.std.proofs.lemmas.List.Elements.{All-nil, All-weaker}
 use Rattle.config_groups.specs.declared.settings.Settings.{Settings}
@@ -8,7 +8,7 @@ use Rattle.kn_base.specs.Talk.{said_of, heard_of}
 use Rattle.kn_base.proofs.Talks.{said_of-append, heard_of-append}
 use Rattle.kn_base.specs.declared.piece.Piece.{Piece}
 use Rattle.kn_base.specs.declared.piece.Piece.TheVariants.{Heard}
-use Rattle.sendsms_http.specs.Events.{Event, Spoke, Read, Handed, pieces_of, readings_of, deeds_of, IsReadAt, AreRead, IsMoment, AreMoments, IsInTurn, IsOwn, AreOwn}
+use Rattle.sendsms_http.specs.Events.{Event, Spoke, Read, Handed, pieces_of, readings_of, deeds_of, IsReadAt, AreRead, IsMoment, AreMoments, IsInTurn, AreOwn}
 use Rattle.sendsms_http.specs.Exchange.{Exchange, text_of, IsExchange, IsKept, heard_in, said_in, deeds_in}
 use Rattle.sendsms_http.proofs.Exchanges.{split_at, deeds_last}
 
@@ -293,7 +293,6 @@ module _ (settings : Settings) (events : List Event) (pieces : List Piece) (read
     moments = t.moments;
   }
 
-
 -- ---- deeds of their own
 
 pub own_none : {S : Type 0} (leads : S → List Deed → S → Type 0) (faults : S → ℕ) (store : S) → AreOwn leads faults store store []
@@ -336,9 +335,11 @@ own_more leads faults nowhere leads_on store later now deeds deed own led more c
     tail_of : List Deed → List Deed
     tail_of [] = []
     tail_of (d ∷ ds) = ds
+
     same_front : (before xs ys : List Deed) → before ++ xs ≡ before ++ ys → tail_of xs ≡ tail_of ys
     same_front [] xs ys e = ap tail_of e
     same_front (d ∷ before) xs ys e = same_front before xs ys cc
+
     rest_of : (before rest after : List Deed) (one : Deed) → deeds ≡ before ++ one ∷ rest → deeds ++ deed ∷ [] ≡ before ++ one ∷ after → after ≡ rest ++ deed ∷ []
     rest_of before rest after one cut whole =
         same_front before (one ∷ after) (one ∷ (rest ++ deed ∷ []))

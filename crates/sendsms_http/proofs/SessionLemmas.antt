@@ -73,18 +73,18 @@ module _ {S : Type 0} (leads : S → List Deed → S → Type 0) (faults : S →
   pub stands_said : (pieces : List Piece) (kept : List Exchange) (e : Exchange) (left : List ℕ) (taken : ℕ) (ended : Bool) (b c : Course)
       → Stands leads faults can_submit settings store start told pieces kept (e.octets ++ left) taken ended b → IsKept settings e
       → (says : SaysAll (text_of e) b c)
-      → Stands leads faults can_submit settings store start told (pieces ++ saypieces) (kept ++ e ∷ []) left taken ended c
+      → Stands leads faults can_submit settings store start told (pieces ++ says.pieces) (kept ++ e ∷ []) left taken ended c
   stands_said pieces kept e left taken ended b c s is says =
-      let heard : heard_of (pieces ++ saypieces) ≡ heard_of pieces =
-      heard_of-append pieces saypieces ∙ ap (λ back. heard_of pieces ++ back) says.nothing_heard ∙ append-nil (heard_of pieces) in
+      let heard : heard_of (pieces ++ says.pieces) ≡ heard_of pieces =
+      heard_of-append pieces says.pieces ∙ ap (λ back. heard_of pieces ++ back) says.nothing_heard ∙ append-nil (heard_of pieces) in
       record {
         kept_each = All-append (IsKept settings) kept (e ∷ []) s.kept_each (All-cons (IsKept settings) e [] is (All-nil (IsKept settings)));
         heard = heard ∙ s.heard ∙ sym (append_assoc (heard_in kept) e.octets left) ∙ ap (λ front. front ++ left) (sym (heard_last kept e));
-        said = said_of-append pieces saypieces ∙ ap (λ front. front ++ said_of saypieces) s.said ∙ ap (λ back. said_in kept ++ back) says.said
+        said = said_of-append pieces says.pieces ∙ ap (λ front. front ++ said_of says.pieces) s.said ∙ ap (λ back. said_in kept ++ back) says.said
             ∙ sym (said_last kept e);
-        prompt = prompt_said settings pieces saypieces s.prompt says.nothing_heard;
+        prompt = prompt_said settings pieces says.pieces s.prompt says.nothing_heard;
         many = ap length heard ∙ s.many;
-        talk = ap (λ (d : Course). d.talk) says.after ∙ ap (λ t. with_more t saypieces) s.talk ∙ with_more-with_more start.talk pieces saypieces;
+        talk = ap (λ (d : Course). d.talk) says.after ∙ ap (λ t. with_more t says.pieces) s.talk ∙ with_more-with_more start.talk pieces says.pieces;
         counts = ap (λ (d : Course). d.counts) says.after ∙ s.counts;
       }
 

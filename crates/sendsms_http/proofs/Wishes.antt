@@ -8,7 +8,6 @@ use Rattle.gate_model.specs.Acceptor.{Deed}
 use Rattle.gate_model.specs.Reply.{IsAccepted}
 use Rattle.gate_model.specs.declared.reply.Reply.{Reply}
 use Rattle.gate_model.specs.declared.reply.Refusal.{Refusal}
-use Rattle.gate_model.specs.declared.reply.Refusal.TheVariants as refusal_is
 use Rattle.http_text.specs.Answer.{reply_text}
 use Rattle.http_text.specs.Head.{NeedsMore}
 use Rattle.http_text.specs.declared.answer.Answer.{Answer}

@@ -1,5 +1,5 @@
 -- What a request asks: the parts of a message, or the answer that refuses it.
-use Rattle.std.specs.Prelude.{ℕ, not, if◌then◌else◌, bytes_eq, List, [], Option, Some, None, Result, Ok, Err}
+use Rattle.std.specs.Prelude.{ℕ, not, if◌then◌else◌, bytes_eq, List, Option, Some, None, Result, Ok, Err}
 use Rattle.config_groups.specs.declared.settings.Settings.{Settings}
 use Rattle.config_groups.specs.declared.settings.user.User.{User}
 use Rattle.sms_record.specs.declared.sms.Sms.{Sms}

@@ -4,7 +4,6 @@ use Rattle.config_groups.specs.declared.settings.Settings.{Settings}
 use Rattle.gate_model.specs.Acceptor.{Deed, CountsFaults, MayBeHanded}
 use Rattle.gate_model.specs.declared.reply.Reply.{Reply}
 use Rattle.gate_model.specs.declared.reply.Refusal.{Refusal}
-use Rattle.gate_model.specs.declared.reply.Refusal.TheVariants as refusal_is
 use Rattle.http_text.specs.Answer.{reply_text}
 use Rattle.http_text.specs.Head.{NeedsMore}
 use Rattle.http_text.specs.OneHead.{IsHead}
