@@ -129,9 +129,12 @@ module _ (name : List ℕ) (before after : ℕ) (read : Read) (rose : (read.faul
         × AsksFor (spec.names_of all missing name) asked asked_now
     unfolding spec.config_at
     asks_refused all fault is other (inl e) = absurd (other e)
-    asks_refused all fault is other (inr e) =
-        (missing_by read.fault read.files, ap spec.config_of (sym is) ∙ e, counts_missing read.fault read.files before after rose spared,
-        subst (λ names. AsksFor names asked asked_now) (ap (λ (r : Read). r.names) is) asks)
+    asks_refused all fault is other (inr e) = (
+      missing_by read.fault read.files,
+      ap spec.config_of (sym is) ∙ e,
+      counts_missing read.fault read.files before after rose spared,
+      subst (λ names. AsksFor names asked asked_now) (ap (λ (r : Read). r.names) is) asks,
+    )
 
     asks_of_all : (all : List (List ℕ × List ℕ)) (result : Result Settings ConfigFault) → read ≡ lines_of all (missing_by read.fault read.files) name →
         IfOk result (λ settings. spec.config_of read ≡ Ok settings) →
@@ -139,9 +142,10 @@ module _ (name : List ℕ) (before after : ℕ) (read : Read) (rose : (read.faul
         spec.AsksInTurn all name before after asked asked_now result
     unfolding spec.config_of
     asks_of_all all (Ok settings) is ok err =
-        let none : read.fault ≡ None = settings_by read.fault (groups_of read.lines) settings ok in
-        (spared (λ e. subst IsNoFileEnd (sym (sym none ∙ e)) tt),
-        subst (λ names. AsksFor names asked asked_now) (ap (λ (r : Read). r.names) (subst (λ fault. read ≡ lines_of all (missing_by fault read.files) name) none is)) asks)
+        let none : read.fault ≡ None = settings_by read.fault (groups_of read.lines) settings ok in (
+          spared (λ e. subst IsNoFileEnd (sym (sym none ∙ e)) tt),
+          subst (λ names. AsksFor names asked asked_now) (ap (λ (r : Read). r.names) (subst (λ fault. read ≡ lines_of all (missing_by fault read.files) name) none is)) asks,
+        )
     asks_of_all all (Err faults.Memory) is ok err = tt
     asks_of_all all (Err faults.TooDeep) is ok err = asks_refused all faults.TooDeep is (λ e. subst IsOther e tt) err
     asks_of_all all (Err faults.NoFile) is ok err = asks_refused all faults.NoFile is (λ e. subst IsOther e tt) err
