@@ -13,7 +13,7 @@ use crate::{HttpEnd, asked};
 use config_groups::Settings;
 use http_text::{Answer, Head, HeadRead, Place, Spot, read_more};
 use kn_base::{Memory, Octets};
-use std::mem::replace;
+use peer_pieces::drop_front;
 
 impl Visit {
     // Octets came.
@@ -99,10 +99,7 @@ impl Visit {
         requires { len ≤ length self.old.kept }
         ensures { self.new ≡ record self.old { kept = drop len self.old.kept } }
     {
-        let kept = replace(&mut self.kept, Octets::new(self.alloc));
-        let mut items = kept.into_vec();
-        items.drain(..len);
-        self.kept = Octets::from_vec(items);
+        drop_front(self.alloc, &mut self.kept, len);
     }
 
     // Listens for more, unless as many octets were given as may be.
