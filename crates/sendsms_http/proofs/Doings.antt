@@ -35,7 +35,7 @@ use Rattle.sendsms_http.proofs.Events.{read_at_more, waits_moment, turn_none, tu
 use Rattle.sendsms_http.proofs.Exchanges.{times_last, deeds_last}
 use Rattle.sendsms_http.proofs.SessionLemmas.{stands_none, stands_heard, stands_ended, has_none, has_done}
 use Rattle.sendsms_http.proofs.Endings.{serves_closed, serves_cut}
-use Rattle.sendsms_http.proofs.Looking.{some_more}
+use Rattle.sendsms_http.proofs.Heads.{some_more}
 
 -- ---- the phase, by the wish
 

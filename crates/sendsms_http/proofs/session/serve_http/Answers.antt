@@ -3,7 +3,7 @@ use Rattle.sendsms_http.specs.SessionSteps.{SaysLost}
 use Rattle.sendsms_http.specs.declared.visit.VisitWish.TheVariants.{Listen, Submit, Say, Over}
 use Rattle.sendsms_http.proofs.Wishes.{step}
 use Rattle.sendsms_http.proofs.Doings.{listening, begins, waits_first, fits_then, fits_said, fits_answered, end_so, heard, said, handed, lost}
-use Rattle.sendsms_http.proofs.Falling.{heard_falls, said_falls_too, handed_falls}
+use Rattle.sendsms_http.proofs.Termination.{heard_falls, said_falls_too, handed_falls}
 use Rattle.sendsms_http.proofs.session.serve_http.Goals as goal
 
 pub loop-peer-init : goal.loop-peer-init
