@@ -1,12 +1,12 @@
 -- What the variables of a request may hold, and what they are read as. None stands for what a variable may not hold. A variable without a
 -- value is one that isn't there, but for `to` and `text`. Which variable holds what is a row of Form.antt; its name is that of its spot.
-use Rattle.std.specs.Prelude.{ℕ, zero, suc, Bool, true, false, ◌&&◌, ◌==◌, ◌%◌, nat_le, List, [], ◌∷◌, length, drop, map, filter, chars, codes, Option, Some, None, Result, Ok, Err, if◌then◌else◌}
+use Rattle.std.specs.Prelude.{◌≡◌, ◌⊎◌, IfErr, ℕ, zero, suc, Bool, true, false, ◌&&◌, ◌==◌, ◌%◌, nat_le, List, [], ◌∷◌, length, drop, map, filter, chars, codes, Option, Some, None, Result, Ok, Err, if◌then◌else◌}
 use Rattle.std.specs.List.{list_all, slice_split, flat_map}
 use Rattle.std.specs.Option.{option_or}
 use Rattle.std.specs.Str.{is_utf8, str_eq_ignore_ascii_case}
 use Rattle.http_text.specs.Answer.{spot_name}
 use Rattle.http_text.specs.declared.answer.Answer.{Answer}
-use Rattle.http_text.specs.declared.answer.Answer.TheVariants.{BadRequest}
+use Rattle.http_text.specs.declared.answer.Answer.TheVariants.{BadRequest, OutOfMemory}
 use Rattle.http_text.specs.declared.answer.spot.Spot.{Spot}
 use Rattle.kn_base.specs.declared.charset.Charset.{Charset}
 use Rattle.kn_base.specs.declared.charset.Charset.TheVariants.{Utf8, Latin1, Utf16Be}
@@ -21,6 +21,10 @@ use Rattle.sms_record.specs.Limits.{most_digits}
 use Rattle.config_values.specs.Values.{is_within, is_digits, is_number_within, number_of, is_filled, has_plus, behind_plus, sender_of}
 use Rattle.sendsms_form.specs.declared.pairs.Pair.{Pair}
 use Rattle.sendsms_form.specs.Pairs.{value}
+
+-- a refusal is the one of the definition, or want of memory, which may stand in the place of any answer
+abbrev pub RefusesAs : {X Y : Type 0} → (right : Result X Answer) → Result Y Answer → Type 0
+RefusesAs right result = IfErr result (λ answer. (answer ≡ OutOfMemory) ⊎ (right ≡ Err answer))
 
 -- ---- the forms of variables
 

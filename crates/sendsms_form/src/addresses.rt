@@ -5,6 +5,7 @@ ghost use Rattle.std.specs.List.{list_all};
 ghost use Rattle.config_values.specs.Values.{has_plus, behind_plus};
 ghost use Rattle.sendsms_form.specs.Form as form;
 ghost use Rattle.sendsms_form.specs.Variables as spec;
+ghost use Rattle.sendsms_form.specs.Variables.{RefusesAs};
 
 use crate::Pair;
 use crate::variable::value_of;
@@ -22,7 +23,7 @@ const MOST_RECEIVERS: usize = 50;
 /// Reads `to`: the receivers of a form.
 pub(crate) fn receivers_of(alloc: Global, pairs: &[Pair]) -> Result<Items<Address>, Answer>
     ensures ok { IfOk result (λ receivers. form.receivers_of pairs.now ≡ Ok receivers) }
-    ensures err { IfErr result (λ answer. (answer ≡ Answer.OutOfMemory) ⊎ (form.receivers_of pairs.now ≡ Err answer)) }
+    ensures err { RefusesAs (form.receivers_of pairs.now) result }
 {
     let value = value_of(pairs, Spot::To);
     if !are_receivers(value) {
@@ -39,7 +40,7 @@ pub(crate) fn sender_of(
     pairs: &[Pair],
 ) -> Result<Address, Answer>
     ensures ok { IfOk result (λ sender. form.sender_of user.now common.now pairs.now ≡ Ok sender) }
-    ensures err { IfErr result (λ answer. (answer ≡ Answer.OutOfMemory) ⊎ (form.sender_of user.now common.now pairs.now ≡ Err answer)) }
+    ensures err { RefusesAs (form.sender_of user.now common.now pairs.now) result }
 {
     let given = value_of(pairs, Spot::From);
     match sender_by(

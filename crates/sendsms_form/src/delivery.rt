@@ -2,6 +2,7 @@
 
 ghost use Rattle.std.specs.Prelude.{◌≡◌, ◌⊎◌, Ok, Err, OnOk, IfOk, IfErr};
 ghost use Rattle.sendsms_form.specs.Form as spec;
+ghost use Rattle.sendsms_form.specs.Variables.{RefusesAs};
 
 use crate::Pair;
 use crate::variable::{number, octets};
@@ -21,7 +22,7 @@ pub(crate) fn set_delivery(
     sms: &mut Sms,
 ) -> Result<(), Answer>
     ensures ok { OnOk result (spec.delivery_of user.now pairs.now sms.old ≡ Ok sms.new) }
-    ensures err { IfErr result (λ answer. (answer ≡ Answer.OutOfMemory) ⊎ (spec.delivery_of user.now pairs.now sms.old ≡ Err answer)) }
+    ensures err { RefusesAs (spec.delivery_of user.now pairs.now sms.old) result }
 {
     let smsc = smsc_of(user, pairs)?;
     sms.validity = number(pairs, Spot::Validity, 1, MOST_MINUTES)?;

@@ -5,6 +5,7 @@ ghost use Rattle.config_groups.specs.Ranges.{IsUser};
 ghost use Rattle.config_values.specs.Forms.{IsSender};
 ghost use Rattle.sendsms_form.specs.Form as spec;
 ghost use Rattle.sendsms_form.specs.Ranges.{IsForm};
+ghost use Rattle.sendsms_form.specs.Variables.{RefusesAs};
 
 use crate::Pair;
 use crate::addresses::{receivers_of, sender_of};
@@ -41,7 +42,7 @@ pub fn read_form(
     pairs: &[Pair],
 ) -> Result<Form, Answer>
     ensures form { IfOk result (λ form. spec.form_of user.now common.now pairs.now ≡ Ok form) }
-    ensures refusal { IfErr result (λ answer. (answer ≡ Answer.OutOfMemory) ⊎ (spec.form_of user.now common.now pairs.now ≡ Err answer)) }
+    ensures refusal { RefusesAs (spec.form_of user.now common.now pairs.now) result }
     ensures within { IsUser user.now → IfSome common.now IsSender → IfOk result IsForm }
 {
     form_as_defined(alloc, user, common, pairs)
@@ -56,7 +57,7 @@ fn form_as_defined(
     pairs: &[Pair],
 ) -> Result<Form, Answer>
     ensures form { IfOk result (λ form. spec.form_of user.now common.now pairs.now ≡ Ok form) }
-    ensures refusal { IfErr result (λ answer. (answer ≡ Answer.OutOfMemory) ⊎ (spec.form_of user.now common.now pairs.now ≡ Err answer)) }
+    ensures refusal { RefusesAs (spec.form_of user.now common.now pairs.now) result }
 {
     let receivers = receivers_of(alloc, pairs)?;
     let model = model_of(alloc, user, common, pairs)?;
@@ -84,7 +85,7 @@ fn model_of(
     pairs: &[Pair],
 ) -> Result<Sms, Answer>
     ensures ok { IfOk result (λ model. spec.model_of user.now common.now pairs.now ≡ Ok model) }
-    ensures err { IfErr result (λ answer. (answer ≡ Answer.OutOfMemory) ⊎ (spec.model_of user.now common.now pairs.now ≡ Err answer)) }
+    ensures err { RefusesAs (spec.model_of user.now common.now pairs.now) result }
 {
     let sender = sender_of(alloc, user, common, pairs)?;
     let service = Octets::from_slice(alloc, user.name.as_slice())?;

@@ -3,6 +3,7 @@
 ghost use Rattle.std.specs.Prelude.{◌≡◌, ◌⊎◌, ◌≤◌, Ok, Err, OnOk, IfErr, IfSome, length};
 ghost use Rattle.sendsms_form.specs.Form as form;
 ghost use Rattle.sendsms_form.specs.Variables as spec;
+ghost use Rattle.sendsms_form.specs.Variables.{RefusesAs};
 
 use crate::Pair;
 use crate::header::is_header;
@@ -20,7 +21,7 @@ const MOST_HEADER: usize = 60;
 #[tactic(auto, unfolding(crate::specs::Form::manner_of))]
 pub(crate) fn set_manner(alloc: Global, pairs: &[Pair], sms: &mut Sms) -> Result<(), Answer>
     ensures ok { OnOk result (form.manner_of pairs.now sms.old ≡ Ok sms.new) }
-    ensures err { IfErr result (λ answer. (answer ≡ Answer.OutOfMemory) ⊎ (form.manner_of pairs.now sms.old ≡ Err answer)) }
+    ensures err { RefusesAs (form.manner_of pairs.now sms.old) result }
 {
     let udh = value_of(pairs, Spot::Udh);
     sms.coding = coding_by(number_given(pairs, Spot::Coding, 0, 2)?, udh);

@@ -7,6 +7,7 @@ ghost use Rattle.config_groups.specs.Ranges.{IsUser};
 ghost use Rattle.gate_model.specs.Acceptor.{MayBeHanded};
 ghost use Rattle.sendsms_form.specs.Ranges.{IsForm};
 ghost use Rattle.sendsms_form.specs.Messages as spec;
+ghost use Rattle.sendsms_form.specs.Variables.{RefusesAs};
 
 use crate::Form;
 use crate::limits::limits_of;
@@ -28,7 +29,7 @@ pub fn messages(alloc: Global, user: &User, form: Form, now: u64) -> Result<Vec<
     requires in_range { IsUser user.now }
     requires form { IsForm form }
     ensures messages { IfOk result (λ messages. spec.messages_of user.now form now ≡ Ok messages.items) }
-    ensures refusal { IfErr result (λ answer. (answer ≡ Answer.OutOfMemory) ⊎ (spec.messages_of user.now form now ≡ Err answer)) }
+    ensures refusal { RefusesAs (spec.messages_of user.now form now) result }
     ensures handed { IfOk result (λ messages. MayBeHanded messages.items now) }
     ensures timed { IfOk result (λ messages. All (λ message. message.time ≡ now) messages.items) }
 {
@@ -42,7 +43,7 @@ fn parts_of(alloc: Global, user: &User, form: &Form) -> Result<Vec<Part>, Answer
     requires in_range { IsUser user.now }
     requires form { IsForm form.now }
     ensures parts { IfOk result (λ parts. spec.parts_in user.now form.now ≡ Ok parts.items) }
-    ensures refusal { IfErr result (λ answer. (answer ≡ Answer.OutOfMemory) ⊎ ((now : ℕ) → spec.messages_of user.now form.now now ≡ Err answer)) }
+    ensures refusal { (now : ℕ) → RefusesAs (spec.messages_of user.now form.now now) result }
     ensures each { IfOk result (λ parts. AreParts form.now.model.coding (length form.now.model.udh) (spec.limits_of user.now form.now.model.coding) parts.items) }
 {
     let coding = form.model.coding;

@@ -2,6 +2,7 @@
 
 ghost use Rattle.std.specs.Prelude.{◌≡◌, ◌⊎◌, Ok, Err, OnOk, IfErr};
 ghost use Rattle.sendsms_form.specs.Form as spec;
+ghost use Rattle.sendsms_form.specs.Variables.{RefusesAs};
 
 use crate::Pair;
 use crate::variable::{number, octets};
@@ -15,7 +16,7 @@ use std::alloc::Global;
 #[tactic(auto, unfolding(crate::specs::Form::reports_of))]
 pub(crate) fn set_reports(alloc: Global, pairs: &[Pair], sms: &mut Sms) -> Result<(), Answer>
     ensures ok { OnOk result (spec.reports_of pairs.now sms.old ≡ Ok sms.new) }
-    ensures err { IfErr result (λ answer. (answer ≡ Answer.OutOfMemory) ⊎ (spec.reports_of pairs.now sms.old ≡ Err answer)) }
+    ensures err { RefusesAs (spec.reports_of pairs.now sms.old) result }
 {
     let mask = number(pairs, Spot::DlrMask, 0, u64::from(MOST_MASK))?;
     let url = octets(pairs, Spot::DlrUrl, MOST_URL)?;
