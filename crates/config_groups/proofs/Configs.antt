@@ -139,7 +139,7 @@ module _ (name : List ℕ) (before after : ℕ) (read : Read) (rose : (read.faul
     asks_of_all : (all : List (List ℕ × List ℕ)) (result : Result Settings ConfigFault) → read ≡ lines_of all (missing_by read.fault read.files) name →
         IfOk result (λ settings. spec.config_of read ≡ Ok settings) →
         IfErr result (λ fault. (fault ≡ faults.Memory) ⊎ (spec.config_of read ≡ Err fault)) →
-        spec.AsksInTurn all name before after asked asked_now result
+        spec.AsksFiles all name before after asked asked_now result
     unfolding spec.config_of
     asks_of_all all (Ok settings) is ok err =
         let none : read.fault ≡ None = settings_by read.fault (groups_of read.lines) settings ok in (
@@ -157,7 +157,7 @@ module _ (name : List ℕ) (before after : ℕ) (read : Read) (rose : (read.faul
         IfSome files (λ all. read ≡ lines_of all (missing_by read.fault read.files) name) →
         IfOk result (λ settings. spec.config_of read ≡ Ok settings) →
         IfErr result (λ fault. (fault ≡ faults.Memory) ⊎ (spec.config_of read ≡ Err fault)) →
-        IfSome files (λ all. spec.AsksInTurn all name before after asked asked_now result)
+        IfSome files (λ all. spec.AsksFiles all name before after asked asked_now result)
     config_asks None result is ok err = tt
     config_asks (Some all) result is ok err = asks_of_all all result is ok err
 

@@ -80,10 +80,17 @@ CountsMissing (Some number) before after = Rose before after
 
 -- The shelf was asked for the configuration's files in the order of reading and for no other, up to the first fault of its lines, and a file
 -- that it couldn't give is the missing one. Want of memory may come before any call.
-abbrev pub AsksInTurn :
+abbrev pub AsksFiles :
     List (List ℕ × List ℕ) → List ℕ → (before after : ℕ) → (asked asked_now : Option (List (List ℕ))) → Result Settings ConfigFault → Type 0
-AsksInTurn files name before after asked asked_now (Ok settings) = (after ≡ before) × AsksFor (names_of files None name) asked asked_now
-AsksInTurn files name before after asked asked_now (Err faults.Memory) = Unit {0}
-AsksInTurn files name before after asked asked_now (Err fault) =
+AsksFiles files name before after asked asked_now (Ok settings) = (after ≡ before) × AsksFor (names_of files None name) asked asked_now
+AsksFiles files name before after asked asked_now (Err faults.Memory) = Unit {0}
+AsksFiles files name before after asked asked_now (Err fault) =
     (missing : Option ℕ) × (config_at files missing name ≡ Err fault) × CountsMissing missing before after
     × AsksFor (names_of files missing name) asked asked_now
+
+-- the same of a shelf, where it tells its files
+abbrev pub AsksInTurn :
+    {H : Type 0} → (files_of : H → Option (List (List ℕ × List ℕ))) → (asked_of : H → Option (List (List ℕ))) → (faults_of : H → ℕ)
+    → (shelf shelf_now : H) → List ℕ → Result Settings ConfigFault → Type 0
+AsksInTurn files_of asked_of faults_of shelf shelf_now name result =
+    IfSome (files_of shelf) (λ files. AsksFiles files name (faults_of shelf) (faults_of shelf_now) (asked_of shelf) (asked_of shelf_now) result)

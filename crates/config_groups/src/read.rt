@@ -123,7 +123,7 @@ pub fn read_config<S: Shelf>(
     name: &[u8],
 ) -> Result<Settings, ConfigFault>
     ensures read { IfSome (S.files shelf.old) (λ all. spec.IsConfig all name.now (S.faults shelf.old) (S.faults shelf.new) result) }
-    ensures asked { IfSome (S.files shelf.old) (λ all. spec.AsksInTurn all name.now (S.faults shelf.old) (S.faults shelf.new) (S.asked shelf.old) (S.asked shelf.new) result) }
+    ensures asked { spec.AsksInTurn S.files S.asked S.faults shelf.old shelf.new name.now result }
     ensures spared { IfOk result (λ _. S.faults shelf.new ≡ S.faults shelf.old) }
     ensures ranges { IfOk result AreSettings }
     ensures kept { S.files shelf.new ≡ S.files shelf.old }

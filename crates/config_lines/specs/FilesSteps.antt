@@ -54,10 +54,11 @@ TellsOf read before told = IfSome told (λ asked. asked ≡ before ++ read.names
 -- How reading goes: the shelf keeps its files and is asked for those of the names that are kept, and its count of faults stands still, or rose
 -- where a file could not be had. No file is unread.
 pub record Goes
-    (shelf shelf_now : Option (List (List ℕ × List ℕ))) (asked asked_now : Option (List (List ℕ))) (count count_now : ℕ) (old new : Read) (result : Result (Unit {0}) Memory) : Type 0 where
-  pub kept : shelf_now ≡ shelf
-  pub asks : OnOk result ((before : List (List ℕ)) → TellsOf old before asked → TellsOf new before asked_now)
-  pub spared : OnOk result (new.fault ≢ Some faults.NoFile → count_now ≡ count)
-  pub not_fewer : count ≤ count_now
-  pub missed : OnOk result ((new.fault ≡ Some faults.NoFile) → Rose count count_now)
+    {H : Type 0} (files_of : H → Option (List (List ℕ × List ℕ))) (asked_of : H → Option (List (List ℕ))) (faults_of : H → ℕ)
+    (shelf shelf_now : H) (old new : Read) (result : Result (Unit {0}) Memory) : Type 0 where
+  pub kept : files_of shelf_now ≡ files_of shelf
+  pub asks : OnOk result ((before : List (List ℕ)) → TellsOf old before (asked_of shelf) → TellsOf new before (asked_of shelf_now))
+  pub spared : OnOk result (new.fault ≢ Some faults.NoFile → faults_of shelf_now ≡ faults_of shelf)
+  pub not_fewer : faults_of shelf ≤ faults_of shelf_now
+  pub missed : OnOk result ((new.fault ≡ Some faults.NoFile) → Rose (faults_of shelf) (faults_of shelf_now))
   pub files : OnOk result (old.files ≤ new.files)

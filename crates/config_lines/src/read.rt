@@ -102,7 +102,7 @@ fn add_text<S: Shelf>(
 ) -> Result<(), Memory>
     requires { read.old.fault ≡ None }
     ensures read { OnOk result (IfSome (S.files shelf.old) (λ all. ReadsText all levels file 1 (lines text.now) read.old read.new)) }
-    ensures went { Goes (S.files shelf.old) (S.files shelf.new) (S.asked shelf.old) (S.asked shelf.new) (S.faults shelf.old) (S.faults shelf.new) read.old read.new result }
+    ensures went { Goes S.files S.asked S.faults shelf.old shelf.new read.old read.new result }
 {
     let mut rest = text;
     let mut number = 1;
@@ -134,7 +134,7 @@ fn add_line<S: Shelf>(
 ) -> Result<(), Memory>
     requires { read.old.fault ≡ None }
     ensures read { OnOk result (IfSome (S.files shelf.old) (λ all. ReadsLine all levels file number octets.now read.old read.new)) }
-    ensures went { Goes (S.files shelf.old) (S.files shelf.new) (S.asked shelf.old) (S.asked shelf.new) (S.faults shelf.old) (S.faults shelf.new) read.old read.new result }
+    ensures went { Goes S.files S.asked S.faults shelf.old shelf.new read.old read.new result }
 {
     match put_line(alloc, file, number, octets, read)? {
         Some(name) => add_included(alloc, shelf, name.as_slice(), levels, read),
@@ -153,7 +153,7 @@ fn add_included<S: Shelf>(
 ) -> Result<(), Memory>
     requires { read.old.fault ≡ None }
     ensures read { OnOk result (IfSome (S.files shelf.old) (λ all. ReadsIncluded all levels name.now read.old read.new)) }
-    ensures went { Goes (S.files shelf.old) (S.files shelf.new) (S.asked shelf.old) (S.asked shelf.new) (S.faults shelf.old) (S.faults shelf.new) read.old read.new result }
+    ensures went { Goes S.files S.asked S.faults shelf.old shelf.new read.old read.new result }
 {
     if levels == 0 {
         read.fault = Some(LinesFault::TooDeep);
@@ -173,7 +173,7 @@ fn add_file<S: Shelf>(
 ) -> Result<(), Memory>
     requires { read.old.fault ≡ None }
     ensures read { OnOk result (IfSome (S.files shelf.old) (λ all. ReadsFile all levels name.now read.old read.new)) }
-    ensures went { Goes (S.files shelf.old) (S.files shelf.new) (S.asked shelf.old) (S.asked shelf.new) (S.faults shelf.old) (S.faults shelf.new) read.old read.new result }
+    ensures went { Goes S.files S.asked S.faults shelf.old shelf.new read.old read.new result }
 {
     if read.files >= MOST_FILES {
         read.fault = Some(LinesFault::TooDeep);
