@@ -1,10 +1,12 @@
 //! An octet in two hex digits.
 
-ghost use Rattle.std.specs.Prelude.{◌≡◌, ◌<◌, IfErr};
+ghost use Rattle.std.specs.Prelude.{◌≡◌, ◌<◌, ◌++◌, IfErr, OnOk, OnErr};
+ghost use Rattle.exact_octets.specs.Growth.{Keeps};
 ghost use Rattle.exact_octets.specs.Reading.{Gives, IsOfOctets};
-ghost use Rattle.exact_text.specs.Text.{digit as digit_front, hex_octet_at as hex_octet_front};
+ghost use Rattle.exact_text.specs.Text.{hex_octet, digit as digit_front, hex_octet_at as hex_octet_front};
 
 use exact_octets::{ReadFault, octet_at};
+use kn_base::{Memory, Octets};
 
 /// The hex digit of a number below 16, a letter in upper case.
 fn digit(number: u8) -> u8
@@ -29,4 +31,13 @@ pub fn hex_octet_at(octets: &[u8], value: u8) -> Result<((u8, u8), &[u8]), ReadF
     let (high, rest) = octet_at(octets, high, high)?;
     let (low, rest) = octet_at(rest, low, low)?;
     Ok(((high, low), rest))
+}
+
+/// Puts an octet last in two hex digits, letters in upper case. After `Memory` the old octets still stand first.
+pub fn put_hex_octet(into: &mut Octets, octet: u8) -> Result<(), Memory>
+    ensures ok { OnOk result (into.new ≡ into.old ++ hex_octet octet) }
+    ensures err { OnErr result (Keeps into.old into.new) }
+{
+    into.push(digit(octet / 16))?;
+    into.push(digit(octet % 16))
 }
