@@ -1,5 +1,5 @@
 -- A frame is read exactly.
-use Rattle.std.proofs.Common.{◌≡◌, ℕ, suc, take, drop, ◌+◌, ◌-◌, ◌*◌, ◌/◌, ◌%◌, ◌^◌, ◌<◌, ◌≤◌, Bool, true, false, cond, ltb, eqb, List, [], ◌∷◌, ◌++◌, length, Option, Some, Result, Ok, Err, refl, sym, ap, subst, ◌∙◌, append_assoc, length-append, arith, inl, inr}
+use Rattle.std.proofs.Common.{◌≡◌, ℕ, suc, take, drop, ◌+◌, ◌-◌, ◌/◌, ◌%◌, ◌<◌, ◌≤◌, Bool, true, false, cond, ltb, eqb, List, [], ◌∷◌, ◌++◌, length, Some, Result, Ok, Err, refl, sym, ap, subst, ◌∙◌, length-append, arith, inl, inr}
 use Rattle.std.specs.Borrow.{Bor}
 use Rattle.std.specs.Prelude.{◌&&◌, not, All, ⊤, get_or}
 use Rattle.std.specs.List.{AllByRecursion}
@@ -9,16 +9,16 @@ use Rattle.std.proofs.lemmas.List.Elements.{All-from_recursion, recursion_from_A
 use Rattle.exact_octets.specs.declared.read_fault.ReadFault.{ReadFault}
 use Rattle.exact_octets.specs.declared.read_fault.ReadFault.TheVariants as faults
 use Rattle.exact_octets.specs.declared.record_fault.RecordFault.TheVariants as told
-use Rattle.exact_octets.specs.Fronts.{BreaksOffAt, ReadsFirst}
+use Rattle.exact_octets.specs.Fronts.{ReadsFirst}
 use Rattle.exact_octets.specs.Reading.{Fails, value_of}
 use Rattle.exact_octets.proofs.Readers.{AreOctets, AreOctets-rest, Answers, Wrong, IsReader, then_reads, ◌&◌, made_reads, renamed_reads}
 use Rattle.exact_octets.proofs.Choices.{code_reads}
 use Rattle.exact_octets.proofs.Tests.{and_true, both_true}
 use Rattle.exact_octets.proofs.Fronts.{reads_first, lies_within, one_first}
 use Rattle.exact_text.specs.declared.characters.Characters.TheVariants.{Text}
-use Rattle.exact_text.specs.Text.{is_of, digit, hex_octet, checksum, decimal, hex_octet_at}
-use Rattle.exact_text.proofs.Readers.{mark_reads, ended_reads, decimal_reads, AreOf, characters_reads, hex_octet_reads}
-use Rattle.ucp_wire.specs.Grammar.{Command, command_of, IsCharacter, kind_code, kinds, length_of, IsCommand, ended, summed, head, frame, IsFrame}
+use Rattle.exact_text.specs.Text.{is_of, digit, checksum, decimal}
+use Rattle.exact_text.proofs.Readers.{mark_reads, ended_reads, decimal_reads, characters_reads, hex_octet_reads}
+use Rattle.ucp_wire.specs.Grammar.{Command, command_of, IsCharacter, kind_code, kinds, length_of, IsCommand, ended, summed, head, frame}
 use Rattle.ucp_wire.specs.declared.frame.Frame.TheVariants as answer
 use Rattle.ucp_wire.specs.declared.pdu.Pdu.{Pdu}
 use Rattle.ucp_wire.specs.Answers.{is_hex_digit, refused, HasWrongDigit, IsRefusal, IsReadAs}

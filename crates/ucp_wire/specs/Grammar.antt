@@ -1,5 +1,5 @@
 -- The grammar of frames (EMI/UCP 4.0, 4.2): which operations and results there are, and the octets of each.
-use Rattle.std.specs.Prelude.{◌≡◌, ◌≢◌, ℕ, ◌+◌, ◌≤◌, Bool, true, false, if◌then◌else◌, List, [], ◌∷◌, ◌++◌, length, All}
+use Rattle.std.specs.Prelude.{◌≢◌, ℕ, ◌+◌, ◌≤◌, Bool, true, false, if◌then◌else◌, List, [], ◌∷◌, ◌++◌, length, All}
 use Rattle.exact_octets.specs.Fronts.{IsSpelled}
 use Rattle.exact_text.specs.Text.{decimal, hex_octet, checksum}
 use Rattle.ucp_wire.specs.declared.pdu.Pdu.{Pdu}
@@ -67,6 +67,13 @@ head c = stx ∷ summed c
 -- the frame: behind the head the low eight bits of the sum in two hex digits, and ETX
 abbrev pub frame : Command → List ℕ
 frame c = head c ++ (hex_octet (checksum (summed c)) ++ etx ∷ [])
+
+-- the head in two: up to LEN, and from O or R on
+abbrev pub begin : Command → List ℕ
+begin c = stx ∷ (ended (decimal 2 c.trn) ++ ended (decimal 5 (length_of c)))
+
+abbrev pub behind_length : Command → List ℕ
+behind_length c = ended (kind_code c.result ∷ []) ++ (ended (decimal 2 c.operation) ++ ended c.fields)
 
 -- octets that are a frame
 abbrev pub IsFrame : List ℕ → Type 0

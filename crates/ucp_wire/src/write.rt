@@ -2,13 +2,61 @@
 
 ghost use Rattle.std.specs.Prelude.{◌≡◌, ◌++◌, ◌∷◌, [], length, take, drop, OnOk, OnErr};
 ghost use Rattle.exact_octets.specs.Growth.{Keeps};
-ghost use Rattle.exact_text.specs.Text.{checksum as checksum_front};
-ghost use Rattle.ucp_wire.specs.Grammar.{IsCommand, command_of, summed, head, frame};
+ghost use Rattle.exact_text.specs.Text.{decimal, checksum as checksum_front};
+ghost use Rattle.ucp_wire.specs.Grammar.{IsCommand, command_of, kind_code, ended, begin, behind_length, summed, head, frame};
 
 use crate::Pdu;
 use crate::head::{FRAME_LEN, SLASH};
 use exact_text::{checksum, put_decimal, put_hex_octet};
 use kn_base::{Memory, Octets};
+
+/// Puts a number last in so many digits, with the slash behind it.
+fn put_number(into: &mut Octets, width: usize, number: u64) -> Result<(), Memory>
+    ensures ok { OnOk result (into.new ≡ into.old ++ ended (decimal width number)) }
+    ensures err { OnErr result (Keeps into.old into.new) }
+{
+    put_decimal(into, width, number)?;
+    into.push(SLASH)
+}
+
+/// Puts a text last, with the slash behind it.
+fn put_text(into: &mut Octets, text: &[u8]) -> Result<(), Memory>
+    ensures ok { OnOk result (into.new ≡ into.old ++ ended text.now) }
+    ensures err { OnErr result (Keeps into.old into.new) }
+{
+    into.extend_from_slice(text)?;
+    into.push(SLASH)
+}
+
+/// Puts the letter of an operation or a result last, with the slash behind it.
+fn put_kind(into: &mut Octets, result_: bool) -> Result<(), Memory>
+    ensures ok { OnOk result (into.new ≡ into.old ++ ended (kind_code result_ ∷ [])) }
+    ensures err { OnErr result (Keeps into.old into.new) }
+{
+    into.push(if result_ { 82 } else { 79 })?;
+    into.push(SLASH)
+}
+
+/// Puts STX, TRN and LEN last.
+fn put_begin(into: &mut Octets, pdu: &Pdu) -> Result<(), Memory>
+    requires { IsCommand (command_of pdu.now) }
+    ensures ok { OnOk result (into.new ≡ into.old ++ begin (command_of pdu.now)) }
+    ensures err { OnErr result (Keeps into.old into.new) }
+{
+    into.push(2)?;
+    put_number(into, 2, u64::from(pdu.trn))?;
+    put_number(into, 5, FRAME_LEN + pdu.fields.len() as u64)
+}
+
+/// Puts what stands between LEN and the checksum last.
+fn put_rest(into: &mut Octets, pdu: &Pdu) -> Result<(), Memory>
+    ensures ok { OnOk result (into.new ≡ into.old ++ behind_length (command_of pdu.now)) }
+    ensures err { OnErr result (Keeps into.old into.new) }
+{
+    put_kind(into, pdu.result)?;
+    put_number(into, 2, u64::from(pdu.operation))?;
+    put_text(into, pdu.fields)
+}
 
 /// Puts what stands before the checksum last, or a front of it.
 fn put_head(into: &mut Octets, pdu: &Pdu) -> Result<(), Memory>
@@ -16,17 +64,8 @@ fn put_head(into: &mut Octets, pdu: &Pdu) -> Result<(), Memory>
     ensures ok { OnOk result (into.new ≡ into.old ++ head (command_of pdu.now)) }
     ensures err { OnErr result (Keeps into.old into.new) }
 {
-    into.push(2)?;
-    put_decimal(into, 2, u64::from(pdu.trn))?;
-    into.push(SLASH)?;
-    put_decimal(into, 5, FRAME_LEN + pdu.fields.len() as u64)?;
-    into.push(SLASH)?;
-    into.push(if pdu.result { 82 } else { 79 })?;
-    into.push(SLASH)?;
-    put_decimal(into, 2, u64::from(pdu.operation))?;
-    into.push(SLASH)?;
-    into.extend_from_slice(pdu.fields)?;
-    into.push(SLASH)
+    put_begin(into, pdu)?;
+    put_rest(into, pdu)
 }
 
 /// The sum of a head that was put behind so many octets.

@@ -1,9 +1,8 @@
-use Rattle.std.proofs.Common.{arith, ◌≡◌, ℕ, ◌-◌, length, sym, ap, subst, ◌∙◌, take, drop, Ok, Err}
+use Rattle.std.proofs.Common.{arith, Ok, Err}
 use Rattle.exact_octets.specs.declared.read_fault.ReadFault.TheVariants as faults
-use Rattle.exact_text.specs.Text.{checksum}
-use Rattle.ucp_wire.specs.Grammar.{command_of, summed}
+use Rattle.ucp_wire.specs.Grammar.{command_of}
 use Rattle.ucp_wire.specs.Reading.{closing_at}
-use Rattle.ucp_wire.proofs.Frames.{fails_as, summed_is, head_is, closed_left, closed_whole, closed_fails, closed_malformed, by_sum, reads_whole, reads_short}
+use Rattle.ucp_wire.proofs.Frames.{fails_as, summed_is, closed_left, closed_whole, closed_fails, closed_malformed, by_sum, reads_whole, reads_short}
 use Rattle.ucp_wire.proofs.frame.closed.Goals as goal
 
 pub overflow_sub-at : goal.overflow_sub-at
