@@ -6,11 +6,13 @@
 //! In a text `{` stands for STX, `}` for ETX.
 #![tactic(auto)]
 
+ghost use Rattle.ucp_wire.specs.Grammar.{IsCommand, command_of};
+
 use kn_base::{Memory, Octets};
 use line_cases::{Cases, cut_at, put_named, put_new, put_text, run_lines};
 use std::alloc::Global;
 use std::process::ExitCode;
-use ucp_wire::{Frame, Pdu, read_frame};
+use ucp_wire::{Frame, Pdu, read_frame, write_pdu};
 
 /// The cases of frames.
 struct FrameCases;
@@ -42,9 +44,16 @@ fn frame_octets(alloc: Global, text: &[u8]) -> Result<Octets, Memory> {
     Ok(octets)
 }
 
-/// Puts last what a frame says.
-fn put_whole(report: &mut Octets, pdu: &Pdu, len: usize) -> Result<(), Memory> {
-    put_named(report, b"whole ", len as u64)?;
+/// Puts last what a frame says, and the word `other` where it is written otherwise than it stands in front of the octets.
+fn put_whole(alloc: Global, report: &mut Octets, pdu: &Pdu, octets: &[u8]) -> Result<(), Memory>
+    requires { IsCommand (command_of pdu.now) }
+{
+    let mut again = Octets::new(alloc);
+    write_pdu(&mut again, pdu)?;
+    if !octets.starts_with(again.as_slice()) {
+        report.extend_from_slice(b"other ")?;
+    }
+    put_named(report, b"whole ", again.len() as u64)?;
     put_named(report, b" | ", u64::from(pdu.trn))?;
     report.extend_from_slice(if pdu.result {
         b" result "
@@ -61,7 +70,7 @@ fn put_whole(report: &mut Octets, pdu: &Pdu, len: usize) -> Result<(), Memory> {
 fn front_line(alloc: Global, octets: &[u8]) -> Result<Octets, Memory> {
     let mut line = Octets::from_slice(alloc, b"    ")?;
     match read_frame(octets) {
-        Frame::Whole { pdu, len } => put_whole(&mut line, &pdu, len)?,
+        Frame::Whole { pdu, len } => put_whole(alloc, &mut line, &pdu, &octets[..len])?,
         Frame::NeedMore => line.extend_from_slice(b"need more")?,
         Frame::Bad { at, code } => {
             put_named(&mut line, b"bad at ", at as u64)?;
