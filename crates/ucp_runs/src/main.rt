@@ -1,6 +1,6 @@
 //! Frames of UCP that were written out by hand, and what the calls make of them. Each line is a case, whose name says what it shows:
 //!
-//! - `read NAME TEXT`: what stands in front of the octets, and, of a frame, whether its PDU is written so again.
+//! - `read NAME TEXT`: what stands in front of the octets, and, of a frame, `other` before it where its PDU isn't written so again.
 //! - `cut NAME TEXT`: what stands in front of each front of them, once where those beside it are the same.
 //!
 //! In a text `{` stands for STX, `}` for ETX.
