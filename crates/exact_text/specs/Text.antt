@@ -40,6 +40,11 @@ mark_at mark = octet_at (within mark mark)
 abbrev pub ended_at : {A : Type 0} → ℕ → Reader A → Reader A
 ended_at mark read = made (λ x. x.0) (both read (λ value. mark_at mark))
 
+-- a last digit behind a number, with which it is between two bounds: that number
+abbrev pub last_at : ℕ → ℕ → ℕ → Reader ℕ
+last_at least most high =
+    made (λ octet. high * 10 + (octet - 48)) (octet_at (λ octet. within 48 57 octet && within least most (high * 10 + (octet - 48))))
+
 -- a number of so many decimal digits between two bounds: the number in all of them but the last, and a digit with which it is within them
 unfoldable pub decimal_at : ℕ → ℕ → ℕ → Reader ℕ
 decimal_at zero least most = given 0

@@ -4,7 +4,7 @@ ghost use Rattle.std.specs.Prelude.{◌≡◌, ◌≤◌, ◌<◌, ◌+◌, ◌*
 ghost use Rattle.exact_octets.specs.Alphabet.{within};
 ghost use Rattle.exact_octets.specs.Growth.{Keeps};
 ghost use Rattle.exact_octets.specs.Reading.{Gives, IsOfOctets, made, octet_at as octet_front};
-ghost use Rattle.exact_text.specs.Text.{decimal, decimal_at as decimal_front};
+ghost use Rattle.exact_text.specs.Text.{decimal, last_at as last_front, decimal_at as decimal_front};
 
 use exact_octets::ReadFault;
 use kn_base::{Memory, Octets};
@@ -12,7 +12,7 @@ use kn_base::{Memory, Octets};
 /// The last digit of a number, behind its high ones.
 fn last_at(octets: &[u8], least: u64, most: u64, high: u64) -> Result<(u64, &[u8]), ReadFault>
     requires { high ≤ most / 10 }
-    ensures gives { Gives (λ x. (x.0, x.1.now)) result (made (λ octet. high * 10 + (octet - 48)) (octet_front (λ octet. within 48 57 octet && within least most (high * 10 + (octet - 48)))) octets.now) }
+    ensures gives { Gives (λ x. (x.0, x.1.now)) result (last_front least most high octets.now) }
     ensures most { IfOk result (λ x. x.0 ≤ most) }
     ensures no_memory { IfErr result IsOfOctets }
 {

@@ -122,6 +122,16 @@ frame_reads =
       back = λ c good. ((c, ((digit (checksum (summed c) / 16), digit (checksum (summed c) % 16)), 3)), (good, ((refl, refl), refl)), refl, refl);
     })
 
+-- ---- laws
+
+-- octets that begin with two frames begin with one: no frame begins another
+pub one_frame : (a b : Command) (x y : List ℕ) → IsCommand a → IsCommand b → frame a ++ x ≡ frame b ++ y → (a ≡ b) × (x ≡ y)
+one_frame = one_first frame_reads
+
+-- what was written is read again, whatever follows
+pub written_is_read : (c : Command) (rest : List ℕ) → IsCommand c → frame_at (frame c ++ rest) ≡ Ok (c, rest)
+written_is_read = frame_reads.again
+
 -- ---- for the functions that read it
 
 -- a fault that is another
