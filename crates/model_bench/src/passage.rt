@@ -2,7 +2,7 @@
 
 ghost use Rattle.std.specs.Prelude.{◌≡◌, ◌≤◌, ◌∷◌, [], false, length, IfSome};
 ghost use Rattle.gate_entries.specs.Entry.{IsEntry};
-ghost use Rattle.gate_model.specs.Gate.{IsGate, model_of};
+ghost use Rattle.gate_model.specs.Gate.{model_of};
 
 use crate::message::NOW;
 use crate::rules::rules;
@@ -25,7 +25,6 @@ type Window = [Option<u64>; WINDOW];
 
 /// A gate with one link, which is down.
 pub(crate) fn born(alloc: Global) -> Option<Gate>
-    ensures whole { IfSome result (λ gate. IsGate gate) }
     ensures down { IfSome result (λ gate. (model_of gate).up ≡ false ∷ []) }
 {
     match Gate::new(alloc, rules(alloc).ok()?) {
@@ -36,9 +35,7 @@ pub(crate) fn born(alloc: Global) -> Option<Gate>
 
 /// Hands a gate an entry, and says whether it took it.
 pub(crate) fn put_entry(gate: &mut Gate, entry: Recorded) -> bool
-    requires whole { IsGate gate.old }
     requires spelled { IsEntry entry }
-    ensures whole { IsGate gate.new }
     ensures up { (model_of gate.new).up ≡ (model_of gate.old).up }
 {
     if gate.check(&entry).is_err() {
@@ -58,8 +55,6 @@ pub(crate) fn put_entry(gate: &mut Gate, entry: Recorded) -> bool
 
 /// Hands a gate the entry that a payload is, and says whether it took it.
 fn put_payload(alloc: Global, gate: &mut Gate, payload: &[u8]) -> bool
-    requires { IsGate gate.old }
-    ensures whole { IsGate gate.new }
     ensures up { (model_of gate.new).up ≡ (model_of gate.old).up }
 {
     match read_entry(alloc, payload) {
@@ -70,8 +65,6 @@ fn put_payload(alloc: Global, gate: &mut Gate, payload: &[u8]) -> bool
 
 /// Hands a gate an entry so many times, and says whether it took each.
 pub(crate) fn accept_all(alloc: Global, gate: &mut Gate, payload: &[u8], count: u64) -> bool
-    requires { IsGate gate.old }
-    ensures whole { IsGate gate.new }
     ensures up { (model_of gate.new).up ≡ (model_of gate.old).up }
 {
     for _ in 0..count {
@@ -84,18 +77,13 @@ pub(crate) fn accept_all(alloc: Global, gate: &mut Gate, payload: &[u8], count: 
 
 /// The link is up.
 pub(crate) fn bring_up(gate: &mut Gate)
-    requires whole { IsGate gate.old }
     requires down { (model_of gate.old).up ≡ false ∷ [] }
-    ensures { IsGate gate.new }
 {
     gate.pass(Passing::Up { link: LINK });
 }
 
 /// The link takes the next message, where there is one.
-fn take(gate: &mut Gate) -> Option<u64>
-    requires { IsGate gate.old }
-    ensures { IsGate gate.new }
-{
+fn take(gate: &mut Gate) -> Option<u64> {
     let message = gate.next_for(LINK, NOW)?;
     gate.pass(Passing::Took {
         link: LINK,
@@ -123,10 +111,7 @@ pub(crate) fn name_of(alloc: Global, message: u64, naming: Naming) -> Option<Oct
 }
 
 /// The centre took a message. Whether it is so is said.
-fn acknowledge_one(alloc: Global, gate: &mut Gate, message: u64, naming: Naming) -> bool
-    requires { IsGate gate.old }
-    ensures { IsGate gate.new }
-{
+fn acknowledge_one(alloc: Global, gate: &mut Gate, message: u64, naming: Naming) -> bool {
     let Some(foreign) = name_of(alloc, message, naming) else {
         return false;
     };
@@ -142,10 +127,7 @@ fn acknowledge_one(alloc: Global, gate: &mut Gate, message: u64, naming: Naming)
 }
 
 /// The centre took a message of the window, where there is one. Whether it is so is said.
-fn acknowledge(alloc: Global, gate: &mut Gate, taken: Option<u64>, naming: Naming) -> bool
-    requires { IsGate gate.old }
-    ensures { IsGate gate.new }
-{
+fn acknowledge(alloc: Global, gate: &mut Gate, taken: Option<u64>, naming: Naming) -> bool {
     match taken {
         Some(message) => acknowledge_one(alloc, gate, message, naming),
         None => true,
@@ -153,10 +135,7 @@ fn acknowledge(alloc: Global, gate: &mut Gate, taken: Option<u64>, naming: Namin
 }
 
 /// The link takes each of so many messages, and the oldest in its window is acknowledged before it takes another.
-pub(crate) fn acknowledge_all(alloc: Global, gate: &mut Gate, count: u64, naming: Naming) -> bool
-    requires { IsGate gate.old }
-    ensures { IsGate gate.new }
-{
+pub(crate) fn acknowledge_all(alloc: Global, gate: &mut Gate, count: u64, naming: Naming) -> bool {
     let mut window: Window = [None; WINDOW];
     for turn in 0..count.saturating_add(WINDOW as u64) {
         let place = (turn % WINDOW as u64) as usize;
@@ -169,10 +148,7 @@ pub(crate) fn acknowledge_all(alloc: Global, gate: &mut Gate, count: u64, naming
 }
 
 /// The link fills its window.
-fn fill(gate: &mut Gate) -> Window
-    requires { IsGate gate.old }
-    ensures { IsGate gate.new }
-{
+fn fill(gate: &mut Gate) -> Window {
     let mut window: Window = [None; WINDOW];
     for place in 0..WINDOW {
         window[place] = take(gate);
@@ -181,10 +157,7 @@ fn fill(gate: &mut Gate) -> Window
 }
 
 /// The messages of a window are acknowledged in this order of their places: 3, 0, 7, 4, 1, 8, 5, 2, 9, 6.
-fn empty(alloc: Global, gate: &mut Gate, window: &Window) -> bool
-    requires { IsGate gate.old }
-    ensures { IsGate gate.new }
-{
+fn empty(alloc: Global, gate: &mut Gate, window: &Window) -> bool {
     for turn in 0..WINDOW {
         if !acknowledge(
             alloc,
@@ -199,10 +172,7 @@ fn empty(alloc: Global, gate: &mut Gate, window: &Window) -> bool
 }
 
 /// The link takes each of so many messages, and its window is acknowledged, in another order, each time that it is full.
-pub(crate) fn acknowledge_shuffled(alloc: Global, gate: &mut Gate, count: u64) -> bool
-    requires { IsGate gate.old }
-    ensures { IsGate gate.new }
-{
+pub(crate) fn acknowledge_shuffled(alloc: Global, gate: &mut Gate, count: u64) -> bool {
     for _ in 0..count / WINDOW as u64 + 1 {
         let window = fill(gate);
         if !empty(alloc, gate, &window) {

@@ -1,7 +1,5 @@
 //! Reports of a centre.
 
-ghost use Rattle.gate_model.specs.Gate.{IsGate};
-
 use crate::message::NOW;
 use crate::passage::{Naming, name_of, put_entry};
 use gate_entries::{Recorded, Reported};
@@ -14,10 +12,7 @@ use std::alloc::Global;
 const REPORTS: u64 = 1_000;
 
 /// The centre holds a message back. Whether its report was taken is said.
-fn report(alloc: Global, gate: &mut Gate, message: u64) -> bool
-    requires { IsGate gate.old }
-    ensures { IsGate gate.new }
-{
+fn report(alloc: Global, gate: &mut Gate, message: u64) -> bool {
     let Some(foreign) = name_of(alloc, message, Naming::Numbers) else {
         return false;
     };
@@ -34,10 +29,7 @@ fn report(alloc: Global, gate: &mut Gate, message: u64) -> bool
 }
 
 /// The centre reports many times on one message, which stays awaited. Whether each report was taken is said.
-pub(crate) fn report_often(alloc: Global, gate: &mut Gate, message: u64) -> bool
-    requires { IsGate gate.old }
-    ensures { IsGate gate.new }
-{
+pub(crate) fn report_often(alloc: Global, gate: &mut Gate, message: u64) -> bool {
     for _ in 0..REPORTS {
         if !report(alloc, gate, message) {
             return false;

