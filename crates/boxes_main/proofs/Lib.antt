@@ -1,0 +1,15 @@
+pub mod Amid
+pub mod Answered
+pub mod Doubts
+pub mod Ending
+pub mod Gives
+pub mod LinkCalls
+pub mod LinkChoice
+pub mod LinkEnding
+pub mod LinkKept
+pub mod LinkServing
+pub mod LinkTurns
+pub mod OpeningLemmas
+pub mod Printed
+pub mod Sessions
+pub mod Under

@@ -1,0 +1,17 @@
+pub mod Command
+pub mod Disks
+pub mod Door
+pub mod DoorSteps
+pub mod Failure
+pub mod Giving
+pub mod House
+pub mod Lines
+pub mod Link
+pub mod LinkDeeds
+pub mod LinkSteps
+pub mod MemHouse
+pub mod Opening
+pub mod OpeningSteps
+pub mod Show
+pub mod ShowSteps
+pub mod Worker

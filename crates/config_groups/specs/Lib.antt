@@ -1,0 +1,10 @@
+pub mod Groups
+pub mod Table
+pub mod Roles
+pub mod Faults
+pub mod Missing
+pub mod Fields
+pub mod Passed
+pub mod Settings
+pub mod Config
+pub mod Ranges

@@ -1,0 +1,11 @@
+pub mod Readers
+pub mod Tests
+pub mod Digits
+pub mod Octets
+pub mod Loops
+pub mod Fields
+pub mod Choices
+pub mod Filled
+pub mod Streams
+pub mod Growing
+pub mod Fronts

@@ -1,0 +1,3 @@
+pub mod CentrePeers
+pub mod Commands
+pub mod Deliveries

@@ -1,0 +1,2 @@
+pub mod CentrePeer
+pub mod Saying

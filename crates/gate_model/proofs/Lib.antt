@@ -1,0 +1,15 @@
+pub mod AwaitedLemmas
+pub mod DueLaws
+pub mod FatesLaws
+pub mod FlightLemmas
+pub mod LoadingLemmas
+pub mod NextLemmas
+pub mod NumberLemmas
+pub mod OrderLemmas
+pub mod PutLemmas
+pub mod RecordingLemmas
+pub mod RefusalLemmas
+pub mod SettlingLaws
+pub mod SoundLaws
+pub mod TakeLemmas
+pub mod WholeLemmas

@@ -1,0 +1,16 @@
+pub mod Acceptor
+pub mod Due
+pub mod Fates
+pub mod Fold
+pub mod Gate
+pub mod Lawful
+pub mod Replies
+pub mod Reply
+pub mod Routing
+pub mod Links
+pub mod NextSteps
+pub mod Loading
+pub mod Numbers
+pub mod Settling
+pub mod State
+pub mod Whole

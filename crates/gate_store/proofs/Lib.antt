@@ -1,0 +1,16 @@
+pub mod Closing
+pub mod Commits
+pub mod Committing
+pub mod Composing
+pub mod Counting
+pub mod Handed
+pub mod Keeping
+pub mod Loading
+pub mod Opening
+pub mod Passing
+pub mod Recording
+pub mod Refusals
+pub mod Reopened
+pub mod Standing
+pub mod Told
+pub mod Turns

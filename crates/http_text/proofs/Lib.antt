@@ -1,0 +1,10 @@
+pub mod Fields
+pub mod FirstHead
+pub mod HeadLemmas
+pub mod LineCounts
+pub mod OpenEnds
+pub mod PlaceFollows
+pub mod PlaceSteps
+pub mod PlaceWalk
+pub mod ResponseLemmas
+pub mod Whole

@@ -1,0 +1,15 @@
+pub mod Calls
+pub mod Clock
+pub mod Count
+pub mod Course
+pub mod Decimal
+pub mod Hexadecimal
+pub mod Host
+pub mod MemClock
+pub mod MemCourse
+pub mod MemPeer
+pub mod MemShelf
+pub mod Readings
+pub mod Script
+pub mod Shelf
+pub mod Talk

@@ -1,0 +1,9 @@
+pub use Rattle.exact_octets.specs.Fronts
+pub mod Heard
+pub mod Grammar
+pub mod Saying
+pub mod Tags
+pub mod Streams
+pub mod Dcs
+pub mod Arrivals
+pub mod Validity

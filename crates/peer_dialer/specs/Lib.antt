@@ -1,0 +1,4 @@
+pub mod Dealings
+pub mod Host
+pub mod MemDialer
+pub mod Told

@@ -1,0 +1,3 @@
+pub mod Carriage
+pub mod Routes
+pub mod Steps

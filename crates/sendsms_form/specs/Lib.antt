@@ -1,0 +1,4 @@
+pub mod Form
+pub mod Pairs
+pub mod Ranges
+pub mod Variables

@@ -1,0 +1,7 @@
+pub mod Doings
+pub mod Endings
+pub mod Exchanges
+pub mod Falling
+pub mod Looking
+pub mod SessionLemmas
+pub mod Wishes

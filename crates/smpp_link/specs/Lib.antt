@@ -1,0 +1,6 @@
+pub mod Delivery
+pub mod Hearing
+pub mod Receipts
+pub mod Saying
+pub mod Tags
+pub mod TlvTags

@@ -1,0 +1,13 @@
+pub use Rattle.exact_octets.specs.Fronts
+pub use Rattle.exact_octets.specs.Spelling
+pub use Rattle.exact_octets.specs.Numbers
+pub mod Ids
+pub mod Limits
+pub mod Command
+pub mod Grammar
+pub mod Tlvs
+pub mod Answers
+pub mod Stream
+pub mod Room
+pub mod Reading
+pub mod Parts

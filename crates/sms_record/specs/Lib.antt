@@ -1,0 +1,11 @@
+pub use Rattle.exact_octets.specs.Alphabet
+pub use Rattle.exact_octets.specs.Spelling
+pub use Rattle.exact_octets.specs.Fronts
+pub use Rattle.exact_octets.specs.Reading
+pub mod Limits
+pub mod Header
+pub mod Codes
+pub mod Record
+pub mod Room
+pub mod HeaderReading
+pub mod RecordReading

@@ -1,0 +1,5 @@
+pub mod Leaving
+pub mod Numbers
+pub mod Pasts
+pub mod Stops
+pub mod Told

@@ -1,0 +1,2 @@
+mod Expansions
+mod Dates

@@ -1,0 +1,7 @@
+pub mod Style
+pub mod Escape
+pub mod Date
+pub mod Value
+pub mod Words
+pub mod Expansion
+pub mod Identity
