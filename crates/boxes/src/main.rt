@@ -2,8 +2,8 @@
 #![tactic(auto)]
 
 use boxes_main::{
-    Command, ConfigFault, Failure, HostHouse, House, door, link_once, read_command, show, status,
-    tell,
+    Command, ConfigFault, HostHouse, House, OpeningFault, door, link_once, read_command, show,
+    status, tell,
 };
 use kn_base::{Memory, Octets};
 use std::alloc::Global;
@@ -47,9 +47,9 @@ fn run_in<R: Env + AllocGlobal, H: House>(rt: &R, house: &mut H) -> u8 {
     match read_words(rt) {
         Ok(words) => run_words(rt.alloc(), &words, house),
         Err(Memory) => {
-            let failure = Some(Failure::Configuration(ConfigFault::Memory));
-            tell(house.errors(), &failure);
-            status(&failure)
+            let fault = Some(OpeningFault::Configuration(ConfigFault::Memory));
+            tell(house.errors(), &fault);
+            status(&fault)
         }
     }
 }

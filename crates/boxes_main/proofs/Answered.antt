@@ -15,7 +15,7 @@ use Rattle.http_text.specs.declared.answer.Answer.{Answer}
 use Rattle.sendsms_http.specs.Reply.{answer_of}
 use Rattle.sendsms_http.specs.Session.{Exchange, ComesTo, IsExchange, IsKept, deeds_in, with_last}
 use Rattle.sms_record.specs.declared.sms.Sms.{Sms}
-use Rattle.boxes_main.specs.Door.{is_202, accepts_of, accepts_in}
+use Rattle.boxes_main.specs.Moment.{is_202, accepts_of, accepts_in}
 
 -- what was done by some deeds, and then by others
 pub done_of-append : (xs ys : List Deed) → done_of (xs ++ ys) ≡ done_of xs ++ done_of ys
@@ -53,7 +53,7 @@ by_request (Ok parts) now deeds answer comes =
     (subst (λ ds. done_of ds ≡ accepted (is_202 (answer_of comes.0)) ds) (sym comes.2) (one_accepted comes.0 comes.1 parts now))
 
 -- an exchange of any kind
-exchange_done : (settings : Settings) (ended : Bool) (exchange : Exchange) → IsExchange settings ended exchange → done_of exchange.deeds ≡ accepts_of exchange
+pub exchange_done : (settings : Settings) (ended : Bool) (exchange : Exchange) → IsExchange settings ended exchange → done_of exchange.deeds ≡ accepts_of exchange
 exchange_done settings ended exchange (inl request) =
     ⊎_elim (by_request _ request.now exchange.deeds exchange.answer) (λ none. none_done exchange.deeds exchange.answer none.0) request.comes_to
 exchange_done settings ended exchange (inr octets) = none_done exchange.deeds exchange.answer octets.no_deed

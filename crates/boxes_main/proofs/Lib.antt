@@ -3,12 +3,14 @@ pub mod Answered
 pub mod Doubts
 pub mod Ending
 pub mod Gives
+pub mod KeptLemmas
 pub mod LinkCalls
 pub mod LinkChoice
 pub mod LinkEnding
 pub mod LinkKept
 pub mod LinkServing
 pub mod LinkTurns
+pub mod Moments
 pub mod OpeningLemmas
 pub mod Printed
 pub mod Sessions

@@ -1,5 +1,5 @@
 -- A centre that is dialled.
-use Rattle.std.proofs.Common.{ℕ, Bool, List, Option, Some, None, inl, inr, refl, ap, sym, ◌∙◌, subst}
+use Rattle.std.proofs.Common.{ℕ, List, Option, Some, None, inl, inr, refl, ap, sym, ◌∙◌, subst}
 use Rattle.config_groups.specs.declared.settings.link_settings.LinkSettings.{LinkSettings}
 use Rattle.gate_store.specs.declared.store.Store.{Store}
 use Rattle.link_core.specs.declared.heard.Heard.{Heard}

@@ -27,8 +27,8 @@ use Rattle.smpp_link.specs.Saying as smpp
 use Rattle.smpp_link.specs.Tags.{last_tag, next_tag}
 use Rattle.smpp_wire.specs.Command.{BindFields}
 use Rattle.store_disk.specs.Meaning.{Meaning}
-use Rattle.boxes_main.specs.Link.{terms_for, HasNone, IsFirst}
-use Rattle.boxes_main.specs.LinkSteps.{Chooses, Finds, IsLinked, IsNewSession, MayBegin}
+use Rattle.boxes_main.specs.Link.{terms_for, Chooses, HasNone, IsFirst}
+use Rattle.boxes_main.specs.LinkSteps.{Finds, IsLinked, IsNewSession, MayBegin}
 
 -- ---- the first link with an id
 
@@ -83,10 +83,10 @@ ids_of (rule ∷ rules) all =
 
 module _ (settings : Settings) (in_range : AreSettings settings) where
   -- a link that is chosen
-  pub chooses_by : (id : List ℕ) (number : ℕ) (kind : LinkKind) → Finds id settings.rules.links number kind → kind ≡ Smpp → settings.core.store_file ≢ [] → Chooses settings id number
-  chooses_by id number kind found is stored =
+  pub chooses_by : (id : List ℕ) (number : ℕ) (kind : LinkKind) → Finds id settings.rules.links number kind → kind ≡ Smpp → Chooses settings id number
+  chooses_by id number kind found is =
       let other = other_at settings.rules.links settings.links number found.0 in_range.same_links found.1.there in
-      record { rule = found.0; first = found.1; kind = found.2 ∙ is; centre = other.0; centre_is = other.1; store_file = stored }
+      (other.0, record { rule = found.0; first = found.1; kind = found.2 ∙ is; centre_is = other.1 })
 
   pub pair_in : (number : ℕ) (centre : LinkSettings) → (linked : IsLinked settings number centre) → IsPair linked.rule centre
   pair_in number centre linked = pair_at settings.rules.links settings.links number linked.rule centre in_range.pairs linked.there linked.centre_is

@@ -1,5 +1,5 @@
 -- What became of a store over which a link's deeds were done.
-use Rattle.std.proofs.Common.{◌≡◌, ◌≤◌, ◌+◌, ◌*◌, ◌⊎◌, inl, inr, ⊎_elim, ℕ, Bool, true, false, List, [], ◌∷◌, ◌++◌, length, Option, Some, None, Result, Ok, Err, refl, ap, sym, ◌∙◌, append_assoc, arith, subst}
+use Rattle.std.proofs.Common.{◌≡◌, ◌≤◌, ◌+◌, ◌⊎◌, inl, inr, ⊎_elim, ℕ, Bool, true, false, List, [], ◌∷◌, ◌++◌, Option, Some, None, Result, Ok, Err, refl, ap, sym, ◌∙◌, append_assoc, arith, subst}
 use Rattle.std.specs.Prelude.{IfSome}
 use Rattle.std.specs.Bool.{OnTrue}
 use Rattle.std.proofs.lemmas.List.{append-nil}
@@ -7,7 +7,6 @@ use Rattle.kn_base.specs.Count.{Rose}
 use Rattle.gate_entries.specs.declared.passing.Passing.{Passing}
 use Rattle.gate_entries.specs.declared.passing.Passing.TheVariants.{Took}
 use Rattle.gate_entries.specs.declared.recorded.Recorded.{Recorded}
-use Rattle.gate_model.specs.Due.{HaveReports}
 use Rattle.gate_model.specs.Fold.{does, recorded}
 use Rattle.gate_model.specs.Lawful.{is_expired}
 use Rattle.gate_model.specs.Routing.{next}
@@ -16,7 +15,7 @@ use Rattle.gate_model.specs.State.{State}
 use Rattle.gate_model.specs.declared.reply.Refusal.{Refusal}
 use Rattle.gate_model.specs.declared.reply.Refusal.TheVariants as refusal_is
 use Rattle.gate_model.specs.declared.reply.Reply.{Reply}
-use Rattle.gate_store.specs.Deeds.{Performs, Passes, TakesNext, TakesMessage, Withholds, CountsFault, LeavesUnsure, is_by_disk, put_behind}
+use Rattle.gate_store.specs.Deeds.{Performs, Passes, TakesNext, TakesMessage, Withholds, CountsFault, LeavesUnsure, is_by_disk, put_behind, repair_calls}
 use Rattle.gate_store.specs.Entries.{state_of}
 use Rattle.gate_store.specs.Reopening.{Reopens, ReopensTo, MayReopen, MayReopenIn}
 use Rattle.gate_store.specs.Store.{IsStore, IsOpened, birth_in, disk_in, rules_in, state_in, unsure_in}
@@ -24,35 +23,20 @@ use Rattle.gate_store.specs.declared.store.Store.{Store}
 use Rattle.gate_store.specs.declared.taken.Taken.{Taken}
 use Rattle.gate_store.specs.declared.taken.Taken.TheVariants as taken
 use Rattle.gate_store.proofs.Commits.{settle-state_of}
-use Rattle.gate_store.proofs.Counting.{reports_by}
-use Rattle.gate_store.proofs.Reopened.{settle-does}
-use Rattle.gate_store.proofs.Told.{told_weaker, told_leaves_weaker, told_leaves_both}
+use Rattle.gate_store.proofs.Told.{told_leaves_weaker, told_leaves_both}
 use Rattle.link_turn.specs.Steps.{Deed, performed, passed, took}
 use Rattle.link_turn.specs.Turn.{IsOf, Leads}
 use Rattle.route_rules.specs.declared.rules.Rules.{Rules}
 use Rattle.store_disk.specs.Meaning.{Meaning}
 use Rattle.store_disk.specs.Disk.{Areas}
-use Rattle.store_disk.specs.Story.{Story, LeavesOnly, untold}
+use Rattle.store_disk.specs.Story.{Story, LeavesOnly}
 use Rattle.boxes_main.specs.House.{IsToldWord}
-use Rattle.boxes_main.specs.Link.{IsKept}
-use Rattle.boxes_main.specs.LinkDeeds.{expired, recorded_by, recorded_in, Asks, is_failed, IsInDoubt, IsNext, ReopensAmid}
+use Rattle.boxes_main.specs.Kept.{MayLeave, calls_for}
+use Rattle.boxes_main.specs.Link.{Keeps}
+use Rattle.boxes_main.specs.LinkDeeds.{expired, recorded_by, recorded_in, calls_by, calls_in, Asks, is_failed, IsInDoubt, IsNext, ReopensAmid}
 use Rattle.boxes_main.specs.Opening.{IsHouseDisk}
-use Rattle.boxes_main.proofs.Sessions.{ClosesAs, ClosesTo, found_by, opened_stops, opened_calls}
-
--- ---- states that settle alike
-
-alike_to : (rules : Rules) (s t : State) (image : Areas) → settle s ≡ settle t → ReopensTo rules s image → ReopensTo rules t image
-alike_to rules s t image same is = subst (λ (x : State). Reopens rules image x) same is
-
-alike_with : (birth : ℕ) (s t : State) (kept : Recorded) → settle s ≡ settle t → settle (does birth s (recorded kept)) ≡ settle (does birth t (recorded kept))
-alike_with birth s t kept same = settle-does birth s kept ∙ ap (λ (x : State). does birth x (recorded kept)) same ∙ sym (settle-does birth t kept)
-
-alike_may : (birth : ℕ) (rules : Rules) (s t : State) (unsure : Option Recorded) (image : Areas) → settle s ≡ settle t
-    → MayReopen birth rules s unsure image → MayReopen birth rules t unsure image
-alike_may birth rules s t None image same is = alike_to rules s t image same is
-alike_may birth rules s t (Some kept) image same is =
-    ⊎_elim (λ without. inl (alike_to rules s t image same without))
-    (λ with_it. inr (alike_to rules (does birth s (recorded kept)) (does birth t (recorded kept)) image (alike_with birth s t kept same) with_it)) is
+use Rattle.boxes_main.proofs.KeptLemmas.{alike_may, alike_with, costs, kept_by}
+use Rattle.boxes_main.proofs.Sessions.{found_by, opened_amid, opened_calls}
 
 -- ---- what a deed moves
 
@@ -74,6 +58,7 @@ module _ {D : Type 0} (meaning : Meaning D) (rules : Rules) (link : ℕ) where
     pub records : recorded_by rules link deed ≡ put_behind kept outcome
     pub asked : Asks rules link deed kept
     pub failed : is_by_disk outcome ≡ is_failed rules link deed
+    pub costs : calls_for outcome ≤ calls_by deed
 
   same_stays : (deed : Deed) (old new : Store D) → new ≡ old → recorded_by rules link deed ≡ [] → Stays deed old new
   same_stays deed old new same none = record {
@@ -97,6 +82,7 @@ module _ {D : Type 0} (meaning : Meaning D) (rules : Rules) (link : ℕ) where
     records = refl;
     asked = (message, refl);
     failed = refl;
+    costs = omega arith;
   })
   withheld true old new now message refusal same (inr none) = inl (same_stays (took now (Err refusal)) old new none.1 refl)
   withheld false old new now message refusal same none = inl (same_stays (took now (Err refusal)) old new none.1 refl)
@@ -113,6 +99,7 @@ module _ {D : Type 0} (meaning : Meaning D) (rules : Rules) (link : ℕ) where
     records = ap (λ (n : ℕ). expired rules link now n ∷ []) done.1;
     asked = (message, refl);
     failed = refl;
+    costs = omega arith;
   })
   taken_one old new now message (Err refusal) same done = withheld (is_expired message now (state_in old)) old new now message refusal same done
 
@@ -223,7 +210,7 @@ module _ {D : Type 0} (meaning : Meaning D) (rules : Rules) (link : ℕ) where
         split = refl;
         more = Some kept;
         doubt = inr (record { since = []; deed = deed; split = refl; asked = asked });
-        reopens = inr (alike_to rules (does birth state (recorded kept)) (does birth there (recorded kept)) image (alike_with birth state there kept alike)
+        reopens = inr (subst (λ (x : State). Reopens rules image x) (alike_with birth state there kept alike)
             (subst (λ (r : Rules). ReopensTo r (does birth state (recorded kept)) image) same
             (subst (λ b. ReopensTo ruled (does b state (recorded kept)) image) twin with_it)));
       })
@@ -236,15 +223,21 @@ module _ {D : Type 0} (meaning : Meaning D) (rules : Rules) (link : ℕ) where
   -- ---- all deeds
 
   module _ (birth : ℕ) (entries : List Recorded) (first : Story) (made : ℕ) where
+    abbrev leaves : List Deed → Areas → Type 0
+    leaves deeds = MayLeave rules first (ReopensAmid rules link birth entries deeds)
+
     -- a store behind deeds
     record Behind (deeds : List Deed) (store : Store D) : Type 0 where
       pub ruled : rules_in store ≡ rules
       pub born : birth_in store ≡ birth
       pub holds : IsStore meaning store birth (entries ++ recorded_in rules link deeds)
       pub doubt : IfSome (unsure_in store) (IsInDoubt rules link deeds)
-      pub amid : OnTrue meaning.tells (LeavesOnly first (meaning.story (disk_in store)) (ReopensAmid rules link birth entries deeds))
+      pub amid : OnTrue meaning.tells (LeavesOnly first (meaning.story (disk_in store)) (leaves deeds))
       pub rose : IfSome (unsure_in store) (λ _. Rose 0 (meaning.faults (disk_in store)))
-      pub bounded : meaning.calls (disk_in store) ≤ made + 6 * length deeds
+      pub bounded : meaning.calls (disk_in store) + repair_calls (unsure_in store) ≤ made + calls_in deeds
+
+    still_leaves : (deeds : List Deed) (deed : Deed) (image : Areas) → leaves deeds image → leaves (deed ∷ deeds) image
+    still_leaves deeds deed image leaves_ = ⊎_elim (λ so. inl so) (λ so. inr (still_amid birth entries deeds deed image so)) leaves_
 
     more_entries : (deeds : List Deed) (deed : Deed) (es : List Recorded) → recorded_by rules link deed ≡ es
         → (entries ++ recorded_in rules link deeds) ++ es ≡ entries ++ recorded_in rules link (deed ∷ deeds)
@@ -253,7 +246,8 @@ module _ {D : Type 0} (meaning : Meaning D) (rules : Rules) (link : ℕ) where
     behind_still : (deeds : List Deed) (deed : Deed) (old new : Store D) → Behind deeds old → Stays deed old new → Behind (deed ∷ deeds) new
     behind_still deeds deed old new was stays =
         let fewer = was.bounded in
-        let same : meaning.calls (disk_in new) ≡ meaning.calls (disk_in old) = ap calls stays.disk in
+        let same : meaning.calls (disk_in new) ≡ meaning.calls (disk_in old) = ap meaning.calls stays.disk in
+        let unsure : repair_calls (unsure_in new) ≡ repair_calls (unsure_in old) = ap repair_calls stays.unsure in
         record {
           ruled = stays.ruled ∙ was.ruled;
           born = stays.born ∙ was.born;
@@ -261,18 +255,18 @@ module _ {D : Type 0} (meaning : Meaning D) (rules : Rules) (link : ℕ) where
               (stays.holds birth (entries ++ recorded_in rules link deeds) was.holds);
           doubt = still_doubt deeds deed (unsure_in new) stays.none
               (subst (λ (u : Option Recorded). IfSome u (IsInDoubt rules link deeds)) (sym stays.unsure) was.doubt);
-          amid = told_leaves_weaker tells first (meaning.story (disk_in new)) (ReopensAmid rules link birth entries deeds) (ReopensAmid rules link birth entries (deed ∷ deeds))
-              (still_amid birth entries deeds deed)
-              (subst (λ (d : D). OnTrue meaning.tells (LeavesOnly first (story d) (ReopensAmid rules link birth entries deeds))) (sym stays.disk) was.amid);
+          amid = told_leaves_weaker meaning.tells first (meaning.story (disk_in new)) (leaves deeds) (leaves (deed ∷ deeds)) (still_leaves deeds deed)
+              (subst (λ (d : D). OnTrue meaning.tells (LeavesOnly first (meaning.story d) (leaves deeds))) (sym stays.disk) was.amid);
           rose = subst (λ (d : D). IfSome (unsure_in new) (λ _. Rose 0 (meaning.faults d))) (sym stays.disk)
               (subst (λ (u : Option Recorded). IfSome u (λ _. Rose 0 (meaning.faults (disk_in old)))) (sym stays.unsure) was.rose);
-          bounded = omega (arith, fewer, same);
+          bounded = omega (arith, fewer, same, unsure);
         }
 
     behind_moved : (deeds : List Deed) (deed : Deed) (old new : Store D) → Behind deeds old → Moves deed old new → Behind (deed ∷ deeds) new
     behind_moved deeds deed old new was moves =
         let fewer = was.bounded in
-        let one = moves.does_.bounded in
+        let one = costs meaning old new moves.kept moves.outcome moves.does_ in
+        let cost = moves.costs in
         let settled : settle (state_in old) ≡ state_of birth rules (entries ++ recorded_in rules link deeds) =
         was.holds.state ∙ ap (λ (r : Rules). state_of birth r (entries ++ recorded_in rules link deeds)) was.ruled in
         record {
@@ -281,14 +275,14 @@ module _ {D : Type 0} (meaning : Meaning D) (rules : Rules) (link : ℕ) where
           holds = subst (λ x. IsStore meaning new birth x) (more_entries deeds deed (put_behind moves.kept moves.outcome) moves.records)
               (moves.does_.holds birth (entries ++ recorded_in rules link deeds) was.holds);
           doubt = now_doubt deeds deed (unsure_in old) (unsure_in new) moves.kept moves.outcome moves.records moves.asked moves.failed was.doubt moves.does_.unsure;
-          amid = told_leaves_both tells first (meaning.story (disk_in old)) (meaning.story (disk_in new)) (ReopensAmid rules link birth entries (deed ∷ deeds))
-              (told_leaves_weaker tells first (meaning.story (disk_in old)) (ReopensAmid rules link birth entries deeds) (ReopensAmid rules link birth entries (deed ∷ deeds))
-              (still_amid birth entries deeds deed) was.amid)
-              (told_leaves_weaker tells (meaning.story (disk_in old)) (meaning.story (disk_in new)) (MayReopenIn (birth_in old) (rules_in old) (state_in old) (unsure_in old) moves.kept)
-              (ReopensAmid rules link birth entries (deed ∷ deeds))
-              (in_call birth entries deeds deed (birth_in old) (rules_in old) (state_in old) (unsure_in old) moves.kept was.born was.ruled settled was.doubt moves.asked) moves.does_.stops);
+          amid = told_leaves_both meaning.tells first (meaning.story (disk_in old)) (meaning.story (disk_in new)) (leaves (deed ∷ deeds))
+              (told_leaves_weaker meaning.tells first (meaning.story (disk_in old)) (leaves deeds) (leaves (deed ∷ deeds)) (still_leaves deeds deed) was.amid)
+              (told_leaves_weaker meaning.tells (meaning.story (disk_in old)) (meaning.story (disk_in new)) (MayReopenIn (birth_in old) (rules_in old) (state_in old) (unsure_in old) moves.kept)
+              (leaves (deed ∷ deeds))
+              (λ image may. inr (in_call birth entries deeds deed (birth_in old) (rules_in old) (state_in old) (unsure_in old) moves.kept was.born was.ruled settled was.doubt moves.asked image may))
+              moves.does_.stops);
           rose = rose_now (unsure_in old) (unsure_in new) moves.kept moves.outcome (meaning.faults (disk_in old)) (meaning.faults (disk_in new)) was.rose moves.does_.unsure moves.does_.counted;
-          bounded = omega (arith, fewer, one);
+          bounded = omega (arith, fewer, one, cost);
         }
 
     behind_one : (deeds : List Deed) (deed : Deed) (old new : Store D) → Behind deeds old → Stays deed old new ⊎ Moves deed old new → Behind (deed ∷ deeds) new
@@ -298,7 +292,7 @@ module _ {D : Type 0} (meaning : Meaning D) (rules : Rules) (link : ℕ) where
     behind_all [] opened closed begun led = subst (Behind []) (sym led) begun
     behind_all (performed kept outcome ∷ deeds) opened closed begun led =
         behind_one deeds (performed kept outcome) led.0 closed (behind_all deeds opened led.0 begun led.1)
-        (inr (record { kept = kept; outcome = outcome; does_ = led.2; records = refl; asked = refl; failed = refl }))
+        (inr (record { kept = kept; outcome = outcome; does_ = led.2; records = refl; asked = refl; failed = refl; costs = omega arith }))
     behind_all (passed brief ∷ deeds) opened closed begun led =
         behind_one deeds (passed brief) led.0 closed (behind_all deeds opened led.0 begun led.1)
         (inl (passes_stays (passed brief) led.0 closed brief led.2 refl))
@@ -308,55 +302,36 @@ module _ {D : Type 0} (meaning : Meaning D) (rules : Rules) (link : ℕ) where
         (taken_next led.0 closed now (next (rules_in led.0) (state_in led.0) link now) outcome was.ruled led.2)
 
   -- what became of a store that was opened on a new disk of the house, and closed
-  pub kept_by : (areas : Areas) (word : Option ℕ) (birth : ℕ) (found : D) (opened closed : Store D) (deeds : List Deed) (disk : D)
-      → IsToldWord word birth → IsHouseDisk meaning areas found → IsOpened meaning found rules birth opened
+  pub keeps_by : (begun : Story) (word : Option ℕ) (birth : ℕ) (found : D) (opened closed : Store D) (deeds : List Deed) (disk : D)
+      → IsToldWord word birth → IsHouseDisk meaning begun found → IsOpened meaning found rules birth opened
       → Leads meaning link opened deeds closed → IsOf link [] false (state_in closed) → disk ≡ disk_in closed
-      → ClosesAs meaning closed disk → ClosesTo meaning closed disk
-      → IsKept meaning rules link areas word deeds disk (unsure_in closed)
-  kept_by areas word birth found opened closed deeds disk told new_disk is led left same closes_as closes_to =
-      let begun : Behind (birth_in opened) is.entries (untold areas) 20 [] opened = record {
+      → Keeps meaning rules link begun word deeds disk (unsure_in closed)
+  keeps_by begun word birth found opened closed deeds disk told new_disk is led left same =
+      let first_calls : meaning.calls (disk_in opened) ≤ 20 = opened_calls meaning begun found rules birth opened new_disk is in
+      let none_owed : repair_calls (unsure_in opened) ≡ 0 = ap repair_calls is.sure in
+      let begin : Behind (birth_in opened) is.entries begun 20 [] opened = record {
         ruled = is.ruled;
         born = refl;
         holds = subst (λ es. IsStore meaning opened (birth_in opened) es) (sym (append-nil is.entries)) is.holds;
         doubt = subst (λ (u : Option Recorded). IfSome u (IsInDoubt rules link [])) (sym is.sure) tt;
-        amid = told_leaves_weaker tells (untold areas) (meaning.story (disk_in opened)) (ReopensTo rules (state_of (birth_in opened) rules is.entries)) (ReopensAmid rules link (birth_in opened) is.entries [])
-            (λ image reopens. record {
-              front = [];
-              since = [];
-              split = refl;
-              more = None;
-              doubt = tt;
-              reopens = subst (λ es. ReopensTo rules (state_of (birth_in opened) rules es) image) (sym (append-nil is.entries)) reopens;
-            }) (opened_stops meaning areas found rules birth opened new_disk is);
+        amid = opened_amid meaning begun found rules birth opened new_disk is (ReopensAmid rules link (birth_in opened) is.entries []);
         rose = subst (λ (u : Option Recorded). IfSome u (λ _. Rose 0 (meaning.faults (disk_in opened)))) (sym is.sure) tt;
-        bounded = let few = opened_calls meaning areas found rules birth opened new_disk is in omega (arith, few);
+        bounded = omega (arith, first_calls, none_owed);
       } in
-      let behind = behind_all (birth_in opened) is.entries (untold areas) 20 deeds opened closed begun led in
-      let all = is.entries ++ recorded_in rules link deeds in
-      let settled : settle (state_in closed) ≡ settle (state_of (birth_in opened) rules all) =
-      behind.holds.state ∙ ap (λ (r : Rules). state_of (birth_in opened) r all) behind.ruled ∙ sym (settle-state_of (birth_in opened) rules all) in
+      let behind = behind_all (birth_in opened) is.entries begun 20 deeds opened closed begin led in
       record {
         birth = birth_in opened;
         entries = is.entries;
-        found = found_by meaning areas found rules birth opened new_disk is word told;
+        found = found_by meaning begun found rules birth opened new_disk is word told;
         opened = opened;
         closed = closed;
-        ruled = is.ruled;
-        began = is.state;
         led = led;
+        kept = kept_by meaning rules (birth_in opened) is.entries (recorded_in rules link deeds) opened closed disk is.ruled is.state behind.ruled behind.born behind.holds same;
         left = left;
-        back = same;
         unsure_is = refl;
         doubt = behind.doubt;
         rose = subst (λ (d : D). IfSome (unsure_in closed) (λ _. Rose 0 (meaning.faults d))) (sym same) behind.rose;
-        stands = closes_as (birth_in opened) all behind.holds;
-        stops = told_weaker meaning.tells _ _
-            (λ reopens image here. alike_may (birth_in opened) rules (state_in closed) (state_of (birth_in opened) rules all) (unsure_in closed) image settled
-            (subst (λ (r : Rules). MayReopen (birth_in opened) r (state_in closed) (unsure_in closed) image) behind.ruled
-            (subst (λ b. MayReopen b (rules_in closed) (state_in closed) (unsure_in closed) image) behind.born (reopens image here))))
-            (closes_to (birth_in opened) all behind.holds);
-        reports = subst (λ (r : Rules). HaveReports (birth_in opened) (state_of (birth_in opened) r is.entries) (recorded_in rules link deeds) (state_in closed)) behind.ruled
-            (reports_by meaning closed (birth_in opened) is.entries (recorded_in rules link deeds) behind.holds);
-        amid = subst (λ (d : D). OnTrue meaning.tells (LeavesOnly (untold areas) (story d) (ReopensAmid rules link (birth_in opened) is.entries deeds))) (sym same) behind.amid;
-        bounded = let here : calls disk ≡ meaning.calls (disk_in closed) = ap calls same in let few = behind.bounded in omega (arith, here, few);
+        amid = subst (λ (d : D). OnTrue meaning.tells (LeavesOnly begun (meaning.story d) (MayLeave rules begun (ReopensAmid rules link (birth_in opened) is.entries deeds)))) (sym same)
+            behind.amid;
+        bounded = let here : meaning.calls disk ≡ meaning.calls (disk_in closed) = ap meaning.calls same in let few = behind.bounded in omega (arith, here, few);
       }

@@ -1,10 +1,8 @@
 -- A session of a link that was held over a store that was opened, and what is left of it.
 use Rattle.std.proofs.Common.{◌≡◌, ◌⊎◌, ℕ, Bool, false, List, [], ◌∷◌, ◌++◌, Option, Some, None, refl, ap, sym, ◌∙◌, subst}
-use Rattle.std.specs.Prelude.{IfSome, MatchOption, is_some, option_map}
-use Rattle.std.specs.Option.{option_map_or}
+use Rattle.std.specs.Prelude.{IfSome, is_some, option_map}
 use Rattle.kn_base.specs.Count.{Rose}
 use Rattle.kn_base.specs.Talk.{heard_of, said_of}
-use Rattle.kn_base.specs.declared.piece.Past.{Past}
 use Rattle.kn_base.proofs.Readings.{readings_first}
 use Rattle.config_groups.specs.declared.settings.link_settings.LinkSettings.{LinkSettings}
 use Rattle.gate_entries.specs.declared.recorded.Recorded.{Recorded}
@@ -27,20 +25,23 @@ use Rattle.smpp_link.specs.Saying.{bind_of}
 use Rattle.smpp_link.specs.Saying as smpp
 use Rattle.smpp_wire.specs.Command.{BindFields}
 use Rattle.store_disk.specs.Meaning.{Meaning}
-use Rattle.store_disk.specs.Disk.{Areas}
-use Rattle.boxes_main.specs.Failure.{status_of}
+use Rattle.store_disk.specs.Story.{Story}
+use Rattle.boxes_main.specs.Failure.{row_of, status_of}
 use Rattle.boxes_main.specs.House.{Rooms, Stock, IsNewDialer, IsToldWord}
-use Rattle.boxes_main.specs.Link.{link_fault, terms_for, said_to, talk_cause, DiskRose, IsHeld, IsUndialled, IsKept}
+use Rattle.boxes_main.specs.Link.{link_fault, terms_for, said_to, talk_cause, DiskRose, IsHeld, IsUndialled, Keeps}
+use Rattle.boxes_main.specs.LinkFault.{link_row}
 use Rattle.boxes_main.specs.LinkSteps.{Calls, CallsNone, HoldsWith, IsNewSession, MayBegin, ServedSo, ServesLink, ends_by, failure_by, pasts_by}
 use Rattle.boxes_main.specs.Opening.{IsHouseDisk}
 use Rattle.boxes_main.specs.Worker.{Worker}
 use Rattle.boxes_main.specs.declared.command_end.Role.TheVariants as role_is
 use Rattle.boxes_main.specs.declared.failure.Failure.{Failure}
-use Rattle.boxes_main.specs.declared.failure.Failure.TheVariants.{Link}
+use Rattle.boxes_main.specs.declared.failure.Failure.TheVariants.{Own}
+use Rattle.boxes_main.specs.declared.link_fault.EndFault.{EndFault}
+use Rattle.boxes_main.specs.declared.link_fault.LinkFault.{LinkFault}
+use Rattle.boxes_main.specs.declared.link_fault.LinkFault.TheVariants.{Session as Failed}
 use Rattle.boxes_main.specs.declared.link_session.Held.{Held}
-use Rattle.boxes_main.specs.declared.link_session.LinkFault.{LinkFault}
-use Rattle.boxes_main.proofs.LinkKept.{kept_by}
-use Rattle.boxes_main.proofs.Sessions.{ClosesAs, ClosesTo, opened_unfailed}
+use Rattle.boxes_main.proofs.LinkKept.{keeps_by}
+use Rattle.boxes_main.proofs.Sessions.{opened_unfailed}
 
 -- ---- what is told of something new
 
@@ -56,26 +57,12 @@ stays_first old None none stays = tt
 stays_first None (Some all) none stays = absurd (let e : None ≡ Some all = stays in cc)
 stays_first (Some so_far) (Some all) none stays = let same : so_far ≡ all = let e : Some so_far ≡ Some all = stays in cc in sym same ∙ none
 
--- the pasts that are told are those that are left
-told_pasts : (cause : EndCause) (held_past : Option Past) (pasts : Option (List Past)) (between : Option (List Past)) → IfSome between (λ so_far. so_far ≡ [])
-    → IfSome pasts (λ _. (past : Past) × (held_past ≡ Some past) × Adds past between pasts)
-    → IfSome pasts (λ all. all ≡ pasts_by (Some (record { cause = cause; past = held_past })))
-told_pasts cause held_past None between none is = tt
-told_pasts cause held_past (Some all) between none is =
-    let first : all ≡ is.0 ∷ [] = adds_first is.0 between (Some all) none is.2 in
-    first ∙ sym (ap (λ (p : Option Past). option_map_or (λ past. past ∷ []) p []) is.1)
-
-left_pasts : (cause : EndCause) (past : Option Past)
-    → MatchOption past (pasts_by (Some (record { cause = cause; past = past })) ≡ []) (λ one. pasts_by (Some (record { cause = cause; past = past })) ≡ one ∷ [])
-left_pasts cause None = refl
-left_pasts cause (Some past) = refl
-
 module _
     {D C L : Type 0} (meaning : Meaning D) (readings_of : C → Option (List ℕ)) (dealings : L → Dealings)
     (number : ℕ) (centre : LinkSettings) (clock clock_later : C) (dialer dialer_later : L) (store after : Store D) (disk : D) (session : Session BindFields)
     (new_clock : IfSome (readings_of clock) (λ so_far. so_far ≡ [])) (new_dialer : IsNewDialer (dealings dialer))
     (may : MayBegin meaning session store) (new_session : IsNewSession number centre session)
-    (same : disk ≡ disk_in after) (closes_as : ClosesAs meaning after disk) (closes_to : ClosesTo meaning after disk) where
+    (same : disk ≡ disk_in after) where
   -- the worker that is left
   abbrev pub worker_left : Option Held → Worker C L
   worker_left held = record { role = role_is.Link number; clock = Some clock_later; dialer = Some dialer_later; ends = ends_by held; pasts = pasts_by held }
@@ -88,12 +75,12 @@ module _
       (subst (λ (us : List Submitted). IsOf (terms_of session).link (messages us) session.up (state_in store)) new_session.new_one.none_used may.of))
 
   module _
-      (rules : Rules) (areas : Areas) (word : Option ℕ) (birth : ℕ) (found : D) (told : IsToldWord word birth)
-      (new_disk : IsHouseDisk meaning areas found) (is : IsOpened meaning found rules birth store) where
+      (rules : Rules) (begun : Story) (word : Option ℕ) (birth : ℕ) (found : D) (told : IsToldWord word birth)
+      (new_disk : IsHouseDisk meaning begun found) (is : IsOpened meaning found rules birth store) where
     -- no connection was made
     undialled : CallsNone Hears Refuses smpp.said meaning (readings_of clock) (readings_of clock_later) store after (dealings dialer) (dealings dialer_later)
         → Adds (asked_for centre.host centre.port) (dealings dialer).dials (dealings dialer_later).dials
-        → IsUndialled meaning readings_of dealings rules number centre areas word (worker_left None ∷ []) (Some disk)
+        → IsUndialled meaning readings_of dealings rules number centre begun word (worker_left None ∷ []) (Some disk)
     undialled none dials = record {
       dialer = dialer_later;
       worker = worker_left None;
@@ -110,18 +97,18 @@ module _
       cause = subst (λ n. Rose n (dealings dialer_later).faults ⊎ ((dealings dialer_later).left ≡ Some 0)) new_dialer.no_faults none.cause;
       after = disk;
       handed_back = refl;
-      kept = subst (λ (u : Option Recorded). IsKept meaning rules number areas word [] disk u) (ap unsure_in none.undone ∙ is.sure)
-          (kept_by meaning rules number areas word birth found store after [] disk told new_disk is none.undone
-          (subst (λ (s : Store D). IsOf number [] false (state_in s)) (sym none.undone) of_before) same closes_as closes_to);
+      keeps = subst (λ (u : Option Recorded). Keeps meaning rules number begun word [] disk u) (ap unsure_in none.undone ∙ is.sure)
+          (keeps_by meaning rules number begun word birth found store after [] disk told new_disk is none.undone
+          (subst (λ (s : Store D). IsOf number [] false (state_in s)) (sym none.undone) of_before) same);
     }
 
     -- a fault of the disk is told only where its count rose
-    disk_rose : (unsure : Option Recorded) (cause : EndCause) (heard spoken readings : List ℕ) (deeds : List Deed) → meaning.faults (disk_in store) ≡ 0 → IfSome unsure (λ _. Rose 0 (faults disk))
+    disk_rose : (unsure : Option Recorded) (cause : EndCause) (heard spoken readings : List ℕ) (deeds : List Deed) → meaning.faults (disk_in store) ≡ 0 → IfSome unsure (λ _. Rose 0 (meaning.faults disk))
         → LinkTalk Hears Refuses (said_to centre) (terms_for number centre) heard spoken readings deeds (talk_cause cause)
         → Leads meaning number store deeds after → DiskRose (link_fault (is_some unsure) cause) (meaning.faults disk)
     disk_rose (Some kept) cause heard spoken readings deeds none rose talk led = rose
     disk_rose None end_is.Disk heard spoken readings deeds none rose talk led =
-        subst (λ (d : D). Rose 0 (faults d)) (sym same) (subst (λ n. Rose n (meaning.faults (disk_in after))) none
+        subst (λ (d : D). Rose 0 (meaning.faults d)) (sym same) (subst (λ n. Rose n (meaning.faults (disk_in after))) none
         (disk_failed meaning Hears Refuses (said_to centre) (terms_for number centre) heard spoken readings deeds number store after talk led))
     disk_rose None end_is.PeerEnd heard spoken readings deeds none rose talk led = tt
     disk_rose None end_is.PeerFault heard spoken readings deeds none rose talk led = tt
@@ -140,17 +127,18 @@ module _
         → Adds (asked_for centre.host centre.port) (dealings dialer).dials (dealings dialer_later).dials
         → HoldsWith Hears Refuses smpp.said meaning (bind_of centre) (terms_for number centre) (readings_of clock) (readings_of clock_later) store after
         between (dealings dialer_later) held
-        → IsHeld meaning readings_of dealings rules number centre areas word (worker_left (Some held) ∷ []) (Some disk)
+        → IsHeld meaning readings_of dealings rules number centre begun word (worker_left (Some held) ∷ []) (Some disk)
         (link_fault (is_some (unsure_in after)) held.cause)
     held_so held between stays dials holds =
-        let kept = kept_by meaning rules number areas word birth found store after holds.deeds disk told new_disk is holds.led holds.left same closes_as closes_to in
+        let keeps = keeps_by meaning rules number begun word birth found store after holds.deeds disk told new_disk is holds.led holds.left same in
         record {
           cause = held.cause;
           pieces = holds.pieces;
           readings = holds.readings;
           deeds = holds.deeds;
           talks = holds.talks;
-          counts = holds.counts;
+          past = held.past;
+          past_is = holds.past_is;
           counted = holds.counted;
           dialer = dialer_later;
           worker = worker_left (Some held);
@@ -160,33 +148,31 @@ module _
             clock = readings_first holds.readings (readings_of clock) (readings_of clock_later) new_clock holds.clock;
             dialer_is = refl;
             dialled = adds_first (asked_for centre.host centre.port) (dealings dialer).dials (dealings dialer_later).dials new_dialer.undialled dials;
-            told = told_pasts held.cause held.past (dealings dialer_later).pasts between.pasts
+            told = adds_first held.past between.pasts (dealings dialer_later).pasts
                 (stays_first (dealings dialer).pasts between.pasts new_dialer.no_pasts stays) holds.pasts;
           };
           ends = refl;
-          past = held.past;
-          past_is = holds.past_is;
-          pasts = left_pasts held.cause held.past;
+          pasts = refl;
           after = disk;
           handed_back = refl;
           unsure = unsure_in after;
-          kept = kept;
+          keeps = keeps;
           failed = refl;
           rose = disk_rose (unsure_in after) held.cause (heard_of holds.pieces) (said_of holds.pieces) holds.readings holds.deeds
-              (opened_unfailed meaning areas found rules birth store new_disk is) kept.rose holds.talks holds.led;
+              (opened_unfailed meaning begun found rules birth store new_disk is) keeps.rose holds.talks holds.led;
         }
 
     -- by what the command fails by
-    served_by : (workers : List (Worker C L)) (fault : Option LinkFault)
-        → IsHeld meaning readings_of dealings rules number centre areas word workers (Some disk) fault
-        → ServedSo meaning readings_of dealings rules number centre areas word workers (Some disk) (option_map Link fault)
+    served_by : (workers : List (Worker C L)) (fault : Option EndFault)
+        → IsHeld meaning readings_of dealings rules number centre begun word workers (Some disk) fault
+        → ServedSo meaning readings_of dealings rules number centre begun word workers (Some disk) (option_map Failed fault)
     served_by workers None held = held
     served_by workers (Some fault) held = held
 
     pub served_so : (held : Option Held)
         → Calls Hears Refuses smpp.said meaning (bind_of centre) (terms_for number centre) centre (readings_of clock) (readings_of clock_later) store after
         (dealings dialer) (dealings dialer_later) held
-        → ServedSo meaning readings_of dealings rules number centre areas word (worker_left held ∷ []) (Some disk)
+        → ServedSo meaning readings_of dealings rules number centre begun word (worker_left held ∷ []) (Some disk)
         (failure_by (is_some (unsure_in after)) held)
     served_so None calls_ = undialled calls_.so calls_.dials
     served_so (Some held) calls_ =
@@ -194,7 +180,8 @@ module _
 
   -- a centre was dialled over a store, and the store was closed
   pub serves_link_by : {V S O E : Type 0} (old mid new : Rooms V S O E) (before between later : Stock) → mid ≡ old → new ≡ mid → between ≡ before → later ≡ between
-      → (status : ℕ) (failure : Option Failure) (held : Option Held) → status ≡ status_of failure → failure ≡ failure_by (is_some (unsure_in after)) held
+      → (status : ℕ) (failure : Option (Failure LinkFault)) (held : Option Held) → status ≡ status_of (row_of link_row) failure
+      → failure ≡ option_map Own (failure_by (is_some (unsure_in after)) held)
       → (workers : List (Worker C L)) → workers ≡ worker_left held ∷ []
       → Calls Hears Refuses smpp.said meaning (bind_of centre) (terms_for number centre) centre (readings_of clock) (readings_of clock_later) store after
       (dealings dialer) (dealings dialer_later) held
@@ -204,9 +191,10 @@ module _
     stock = stock_then ∙ stock_first;
     right = right;
     back = refl;
-    served = λ rules areas word birth found told new_disk is.
-        subst (λ (f : Option Failure). ServedSo meaning readings_of dealings rules number centre areas word workers (Some disk) f) (sym failed)
-        (subst (λ (ws : List (Worker C L)). ServedSo meaning readings_of dealings rules number centre areas word ws (Some disk)
+    fault = failure_by (is_some (unsure_in after)) held;
+    failed = failed;
+    served = λ rules begun word birth found told new_disk is.
+        subst (λ (ws : List (Worker C L)). ServedSo meaning readings_of dealings rules number centre begun word ws (Some disk)
         (failure_by (is_some (unsure_in after)) held)) (sym left)
-        (served_so rules areas word birth found told new_disk is held calls_));
+        (served_so rules begun word birth found told new_disk is held calls_);
   }

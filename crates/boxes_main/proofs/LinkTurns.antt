@@ -1,14 +1,13 @@
 -- Turns of a link's session, one behind the other, up to its end.
 use Rattle.std.proofs.Common.{◌≡◌, ◌≤◌, ◌<◌, ◌+◌, ◌^◌, ◌-◌, ℕ, zero, suc, min, Bool, true, false, List, [], ◌++◌, length, Option, Some, None, inl, inr, ⊎_elim, ◌⊎◌, refl, ap, sym, ◌∙◌, arith, subst}
-use Rattle.std.specs.Prelude.{IfSome, MatchOption, is_some, ◌==◌}
+use Rattle.std.specs.Prelude.{IfSome, is_some, ◌==◌}
 use Rattle.std.proofs.Math.Nat.{min-le_left}
 use Rattle.std.proofs.lemmas.Bool.{cases_Bool, eqb-true}
 use Rattle.std.proofs.lemmas.List.{append-nil, length-append}
 use Rattle.kn_base.specs.Count.{Counts, NoneFell, no_counts, Rose}
 use Rattle.kn_base.specs.Course.{Course, with_more}
 use Rattle.kn_base.specs.Course.{IsFresh as IsNewCourse}
-use Rattle.kn_base.specs.Talk.{heard_of, said_of, IsPastOf}
-use Rattle.kn_base.specs.declared.piece.Past.{Past}
+use Rattle.kn_base.specs.Talk.{heard_of, said_of}
 use Rattle.kn_base.specs.declared.piece.Piece.{Piece}
 use Rattle.gate_store.specs.Store.{IsOpen, rules_in, state_in}
 use Rattle.gate_store.specs.declared.store.Store.{Store}
@@ -28,7 +27,9 @@ use Rattle.link_turn.specs.declared.terms.Terms.{Terms}
 use Rattle.link_turn.specs.declared.turned.Turned.TheVariants.{On, Ended}
 use Rattle.link_turn.specs.declared.wish.Wish.TheVariants as wish_is
 use Rattle.link_turn.proofs.TalkingOn.{talks_none, talks_then}
+use Rattle.peer_dialer.specs.Closed.{IsClosed}
 use Rattle.peer_dialer.specs.Dealings.{Dealings, Parts}
+use Rattle.peer_dialer.specs.declared.closed.Closed.{Closed}
 use Rattle.store_disk.specs.Meaning.{Meaning}
 use Rattle.boxes_main.specs.Door.{octets_limit}
 use Rattle.boxes_main.specs.Link.{quiets_limit, talk_cause, RoseBy, IsCounted, IsPast}
@@ -240,17 +241,18 @@ module _ {C : Type 0} (hears : List ℕ → Heard → Type 0) (refuses : List �
     }
 
     -- what became of the connection, where it is told
-    past_so : (now : Course) (pieces : List Piece) (talk : Option (List Piece)) (past : Option Past) → IfSome talk (λ (so_far : List Piece). so_far ≡ [])
-        → now.talk ≡ with_more talk pieces → MatchOption past (now.talk ≡ None) (IsPastOf now) → IfSome past (IsPast pieces now.counts)
-    past_so now pieces talk None new same is = tt
-    past_so now pieces None (Some past) new same is = absurd (let e : None ≡ Some past.pieces = sym same ∙ is.pieces in cc)
-    past_so now pieces (Some so_far) (Some past) new same is =
-        let e : Some (so_far ++ pieces) ≡ Some past.pieces = sym same ∙ is.pieces in
-        let here : so_far ++ pieces ≡ past.pieces = cc in
-        (sym here ∙ ap (λ (xs : List Piece). xs ++ pieces) new, is.counts)
+    told_so : (pieces : List Piece) (talk : Option (List Piece)) → IfSome talk (λ (so_far : List Piece). so_far ≡ [])
+        → IfSome (with_more talk pieces) (λ told. told ≡ pieces)
+    told_so pieces None new = tt
+    told_so pieces (Some so_far) new = ap (λ (xs : List Piece). xs ++ pieces) new
+
+    past_so : (now : Course) (pieces : List Piece) (talk : Option (List Piece)) (past : Closed) → IfSome talk (λ (so_far : List Piece). so_far ≡ [])
+        → now.talk ≡ with_more talk pieces → IsClosed now past → IsPast pieces past
+    past_so now pieces talk past new same is =
+        subst (λ (told : Option (List Piece)). IfSome told (λ all. all ≡ pieces)) (sym (is.pieces ∙ same)) (told_so pieces talk new)
 
     -- a session that was held, and whose peer was handed back
-    pub holds_by : (now : Course) (now_told : Option (List ℕ)) (store : Store D) (cause : EndCause) (past : Option Past) (before between : Dealings)
+    pub holds_by : (now : Course) (now_told : Option (List ℕ)) (store : Store D) (cause : EndCause) (past : Closed) (before between : Dealings)
         → IsNewCourse first → Talked hears refuses said meaning core terms first now told now_told began store cause
         → Parts now past before between
         → HoldsWith hears refuses said meaning core terms told now_told began store before between (record { cause = cause; past = past })
@@ -269,14 +271,14 @@ module _ {C : Type 0} (hears : List ℕ → Heard → Type 0) (refuses : List �
               (subst (λ x. LinkTalk hears refuses (said core) terms talked.later.heard (spoken_in (said core) talked.later) x talks.deeds (talk_cause cause)) read
               (subst (λ x. LinkTalk hears refuses (said core) terms talked.later.heard (spoken_in (said core) talked.later) talked.later.readings x (talk_cause cause)) done
               talked.whole)));
-          counts = now.counts;
-          counted = subst (λ (x : List ℕ). IsCounted cause (length x) now.counts) heard talked.counted;
+          counted = subst (λ (counts : Counts). IsCounted cause (length (heard_of talks.pieces)) counts) (sym parts.closed.counts)
+              (subst (λ (x : List ℕ). IsCounted cause (length x) now.counts) heard talked.counted);
           clock = talks.clock;
           led = talks.led;
           ruled = talked.ruled;
           opened = talked.opened;
           left = talked.left;
-          past_is = past_so now talks.pieces first.talk past new_course.talk talks.told_so parts.past;
+          past_is = past_so now talks.pieces first.talk past new_course.talk talks.told_so parts.closed;
           pasts = parts.pasts;
           same = parts.same;
         }

@@ -1,5 +1,5 @@
 -- A store that is opened on a new disk of the house.
-use Rattle.std.proofs.Common.{◌≡◌, ℕ, Bool, List, Option, Some, refl, ap, sym, ◌∙◌, subst}
+use Rattle.std.proofs.Common.{◌≡◌, ℕ, List, Option, Some, refl, ap, sym, ◌∙◌, subst}
 use Rattle.config_groups.specs.Ranges.{AreSettings}
 use Rattle.config_groups.specs.declared.settings.Settings.{Settings}
 use Rattle.store_disk.specs.Meaning.{Meaning}
@@ -7,10 +7,10 @@ use Rattle.gate_store.specs.Store.{IsOpened, GivesBack}
 use Rattle.gate_store.specs.declared.store.Store.{Store}
 use Rattle.gate_store.specs.declared.store_fault.StoreFault.{StoreFault}
 use Rattle.boxes_main.specs.House.{Rooms, Stock, MakesOne, IsNewDisk, IsToldWord}
-use Rattle.boxes_main.specs.Opening.{IsConfigured, IsNotOpen}
+use Rattle.boxes_main.specs.Opening.{IsConfigured, IsNotOpen, anything}
 use Rattle.boxes_main.specs.OpeningSteps.{OpensStore, OpensNone, Opens, OpensNothing}
-use Rattle.boxes_main.specs.declared.failure.Failure.{Failure}
-use Rattle.boxes_main.specs.declared.failure.Failure.TheVariants as failure_is
+use Rattle.boxes_main.specs.declared.opening_fault.OpeningFault.{OpeningFault}
+use Rattle.boxes_main.specs.declared.opening_fault.OpeningFault.TheVariants as opening_is
 
 -- the birth that was told before a disk was made
 told_before : (old new : Stock) (birth : ℕ) → MakesOne old new → IsToldWord new.word birth → IsToldWord old.word birth
@@ -37,7 +37,7 @@ module _
   pub none_by : MakesOne before made → after ≡ made
       → IsNewDisk meaning.tells (meaning.story disk) (meaning.calls disk) (meaning.faults disk) (before.disks settings.core.store_file)
       → (back : D) (fault : StoreFault) → GivesBack meaning disk settings.rules back fault
-      → OpensNone meaning settings before after (failure_is.Store fault) (Some back)
+      → OpensNone meaning settings before after (opening_is.Store fault) (Some back)
   none_by makes same new_disk back fault is = record {
     made = subst (λ s. MakesOne before s) (sym same) makes;
     fault = fault;
@@ -66,15 +66,15 @@ module _
   }
 
   -- the configuration was read, and its store wasn't opened
-  pub none_open : (settings : Settings) (failure : Failure) (disk : Option D) → mid ≡ record old { shelf = mid.shelf } → between ≡ before → new ≡ mid
+  pub none_open : (settings : Settings) (fault : OpeningFault) (disk : Option D) → mid ≡ record old { shelf = mid.shelf } → between ≡ before → new ≡ mid
       → IsConfigured files shelf_faults name old.shelf mid.shelf settings
-      → OpensNone meaning settings between after failure disk
-      → OpensNothing files shelf_faults meaning name old new before after failure disk
-  none_open settings failure disk read stays same configured opens =
-      let none = subst (λ (s : Stock). OpensNone meaning settings s after failure disk) stays opens in
+      → OpensNone meaning settings between after fault disk
+      → OpensNothing files shelf_faults meaning name old new before after fault disk
+  none_open settings fault disk read stays same configured opens =
+      let none = subst (λ (s : Stock). OpensNone meaning settings s after fault disk) stays opens in
       record {
         others = others_by read same;
         made = none.made;
-        cause = subst (λ f. IsNotOpen files shelf_faults meaning name old.shelf new.shelf before disk f) (sym none.failed)
-            (settings, subst (λ (r : Rooms V S O E). IsConfigured files shelf_faults name old.shelf r.shelf settings) (sym same) configured, none.cause);
+        cause = subst (λ f. IsNotOpen files shelf_faults meaning anything name old.shelf new.shelf before disk f) (sym none.failed)
+            (settings, subst (λ (r : Rooms V S O E). IsConfigured files shelf_faults name old.shelf r.shelf settings) (sym same) configured, tt, none.cause);
       }

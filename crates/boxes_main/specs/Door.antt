@@ -1,31 +1,34 @@
 -- What the command `door` comes to.
-use Rattle.std.specs.Prelude.{◌≡◌, ◌≤◌, ◌+◌, ◌*◌, ◌⊎◌, ℕ, Bool, true, false, if◌then◌else◌, List, [], ◌∷◌, ◌++◌, length, map, codes, bytes_eq, Option, Some, None, IfSome, is_some, Err}
+use Rattle.std.specs.Prelude.{◌≡◌, ◌≤◌, ◌+◌, ◌⊎◌, ℕ, Bool, true, false, List, [], ◌∷◌, ◌++◌, Option, Some, None, IfSome, is_some, Err}
 use Rattle.std.specs.Bool.{OnTrue}
-use Rattle.std.specs.List.{flat_map}
 use Rattle.kn_base.specs.Course.{Course}
 use Rattle.config_groups.specs.declared.settings.Settings.{Settings}
 use Rattle.gate_entries.specs.declared.recorded.Recorded.{Recorded}
 use Rattle.gate_model.specs.Acceptor.{Deed, CountsFaults}
 use Rattle.gate_model.specs.declared.reply.Refusal.TheVariants as refusal_is
-use Rattle.http_text.specs.Answer.{row as answer_row}
-use Rattle.http_text.specs.declared.answer.Answer.{Answer}
-use Rattle.sendsms_http.specs.Session.{Exchange, Talks, with_last}
+use Rattle.sendsms_http.specs.Events.{Event, IsInTurn}
+use Rattle.sendsms_http.specs.Session.{Talks, with_last}
 use Rattle.sendsms_http.specs.declared.http_end.HttpEnd.{HttpEnd}
 use Rattle.sendsms_http.specs.declared.http_end.HttpEnd.TheVariants as end_is
 use Rattle.route_rules.specs.declared.rules.Rules.{Rules}
 use Rattle.store_disk.specs.Meaning.{Meaning}
 use Rattle.store_disk.specs.Disk.{Areas}
-use Rattle.store_disk.specs.Story.{IsImage, LeavesOnly, untold}
-use Rattle.gate_store.specs.Deeds.{AreReasoned, done_of, entry_of}
+use Rattle.store_disk.specs.Story.{Story, LeavesOnly}
+use Rattle.gate_store.specs.Deeds.{AreReasoned, Leads, done_of, entry_of}
 use Rattle.gate_store.specs.Entries.{state_of}
-use Rattle.gate_store.specs.Reopening.{MayReopen, MayStandFor}
+use Rattle.gate_store.specs.Reopening.{MayReopen}
+use Rattle.gate_store.specs.Store.{unsure_in}
+use Rattle.gate_store.specs.declared.store.Store.{Store}
+use Rattle.boxes_main.specs.Failure.{ComesTo}
 use Rattle.boxes_main.specs.House.{Rooms, Stock}
-use Rattle.boxes_main.specs.Opening.{IsConfigured, IsFound, IsNotOpen}
+use Rattle.boxes_main.specs.Kept.{IsKept, MayLeave, calls_for}
+use Rattle.boxes_main.specs.Moment.{AreStored, accepts_in}
+use Rattle.boxes_main.specs.Opening.{IsConfigured, IsFound, IsNotOpen, anything}
 use Rattle.boxes_main.specs.Worker.{Worker, IsHttpWorker}
 use Rattle.boxes_main.specs.declared.failure.Failure.{Failure}
-use Rattle.boxes_main.specs.declared.failure.Failure.TheVariants.{Usage, Configuration, NoSuchLink, KindNotBuilt, NoStoreFile, Store, Session, Undialled, Link, Output}
-use Rattle.boxes_main.specs.declared.session.SessionFault.{SessionFault}
-use Rattle.boxes_main.specs.declared.session.SessionFault.TheVariants.{Disk, Connection, Budget, Memory}
+use Rattle.boxes_main.specs.declared.opening_fault.OpeningFault.{OpeningFault}
+use Rattle.boxes_main.specs.declared.session_fault.SessionFault.{SessionFault}
+use Rattle.boxes_main.specs.declared.session_fault.SessionFault.TheVariants.{Disk, Connection, Budget, Memory}
 
 -- the octets that one connection may say
 abbrev pub octets_limit : ℕ
@@ -44,20 +47,6 @@ fault_by false end_is.Memory = Some Memory
 pub record IsUnserved {V C L : Type 0} (old new : V) (workers : List (Worker C L)) : Type 0 where
   pub unvisited : new ≡ old
   pub no_worker : workers ≡ []
-
--- ---- what was answered 202
-
--- an answer says that messages were accepted
-abbrev pub is_202 : Answer → Bool
-is_202 answer = bytes_eq (answer_row answer).status (codes "202 Accepted")
-
--- the entries for the messages of a request that was answered 202
-abbrev pub accepts_of : Exchange → List Recorded
-accepts_of exchange = if is_202 exchange.answer then map entry_of exchange.deeds else []
-
--- the same of several requests, in their order
-abbrev pub accepts_in : List Exchange → List Recorded
-accepts_in exchanges = flat_map accepts_of exchanges
 
 -- ---- what is in doubt
 
@@ -88,32 +77,41 @@ pub record ReopensAmid (birth : ℕ) (rules : Rules) (entries : List Recorded) (
 
 -- ---- a session
 
+-- the most disk calls of deeds
+abbrev pub calls_in : List Deed → ℕ
+calls_in [] = 0
+calls_in (deed ∷ deeds) = calls_for deed.outcome + calls_in deeds
+
 module _ {D : Type 0} (meaning : Meaning D) where
-  -- A session that was served by settings over the store that the areas stood for. Each outcome has its reason in the state before
-  -- it, by the rules of the settings, and what was done is what was answered 202. Whatever a stop leaves of the disk that is handed back
-  -- stands for the store with that behind its entries, or, where one is unsure, for that with it.
+  -- A session that was served by settings over a store, which was opened on a disk with this story, led by the session's deeds, and closed. Each
+  -- outcome has its reason in the state before it, by the rules of the settings, and what was done is what was answered 202. Of all that happened, in its
+  -- order, it stood so at each moment.
   pub record IsSession
-      (settings : Settings) (areas : Areas) (word : Option ℕ) (old new : Course) (readings : List ℕ) (end : HttpEnd) (disk : D) (fault : Option SessionFault) : Type 0 where
+      (settings : Settings) (begun : Story) (word : Option ℕ) (old new : Course) (readings : List ℕ) (end : HttpEnd) (disk : D) (fault : Option SessionFault) : Type 0 where
     pub birth : ℕ
     pub entries : List Recorded
-    pub found : IsFound meaning.tells areas word settings.rules birth entries
+    pub found : IsFound meaning.tells begun word settings.rules birth entries
     pub deeds : List Deed
     pub talks : Talks settings octets_limit old new readings deeds end
+    pub events : List Event
+    pub turn : IsInTurn settings events talks.pieces readings deeds (with_last talks.talk.kept talks.talk.last)
     pub reasoned : AreReasoned birth settings.rules (state_of birth settings.rules entries) deeds
     pub stored : done_of deeds ≡ accepts_in (with_last talks.talk.kept talks.talk.last)
-    pub unsure : Option Recorded
-    pub doubt : IfSome unsure (IsInDoubt deeds)
-    pub stands : OnTrue meaning.tells ((image : Areas) → IsImage (story disk) image → MayStandFor birth (entries ++ done_of deeds) unsure image)
-    pub stops : OnTrue meaning.tells ((image : Areas) → IsImage (story disk) image → MayReopen birth settings.rules (state_of birth settings.rules (entries ++ done_of deeds)) unsure image)
-    pub amid : OnTrue meaning.tells (LeavesOnly (untold areas) (story disk) (ReopensAmid birth settings.rules entries deeds))
+    pub opened : Store D
+    pub closed : Store D
+    pub led : Leads meaning opened deeds closed
+    pub kept : IsKept meaning settings.rules birth entries (done_of deeds) opened closed disk
+    pub moments : AreStored meaning settings birth entries opened closed events
+    pub doubt : IfSome (unsure_in closed) (IsInDoubt deeds)
+    pub amid : OnTrue meaning.tells (LeavesOnly begun (meaning.story disk) (MayLeave settings.rules begun (ReopensAmid birth settings.rules entries deeds)))
     pub counted : CountsFaults 0 (meaning.faults disk) deeds
-    pub bounded : meaning.calls disk ≤ 20 + 6 * length deeds
-    pub failed : fault ≡ fault_by (is_some unsure) end
+    pub bounded : meaning.calls disk ≤ 20 + calls_in deeds
+    pub failed : fault ≡ fault_by (is_some (unsure_in closed)) end
 
 module _ {D C L : Type 0} (meaning : Meaning D) (readings_of : C → Option (List ℕ)) where
   -- A session was served, and is all that one worker left.
   pub record IsServed
-      (settings : Settings) (areas : Areas) (word : Option ℕ) (old new : Course) (workers : List (Worker C L)) (disk : Option D) (fault : Option SessionFault) : Type 0 where
+      (settings : Settings) (begun : Story) (word : Option ℕ) (old new : Course) (workers : List (Worker C L)) (disk : Option D) (fault : Option SessionFault) : Type 0 where
     pub readings : List ℕ
     pub end : HttpEnd
     pub worker : Worker C L
@@ -121,7 +119,7 @@ module _ {D C L : Type 0} (meaning : Meaning D) (readings_of : C → Option (Lis
     pub left : IsHttpWorker readings_of worker readings end
     pub after : D
     pub handed_back : disk ≡ Some after
-    pub session : IsSession meaning settings areas word old new readings end after fault
+    pub session : IsSession meaning settings begun word old new readings end after fault
 
 module _
     {V S O E D C L : Type 0} (course : V → Course) (files : S → Option (List (List ℕ × List ℕ))) (shelf_faults : S → ℕ)
@@ -136,20 +134,12 @@ module _
 
   -- No store stood open, and no session was served.
   pub record ServesNone
-      (name : Option (List ℕ)) (old new : Rooms V S O E) (stock : Stock) (workers : List (Worker C L)) (disk : Option D) (failure : Failure) : Type 0 where
+      (name : Option (List ℕ)) (old new : Rooms V S O E) (stock : Stock) (workers : List (Worker C L)) (disk : Option D) (fault : OpeningFault) : Type 0 where
     pub unserved : IsUnserved old.visitor new.visitor workers
-    pub cause : IsNotOpen files shelf_faults meaning name old.shelf new.shelf stock disk failure
+    pub cause : IsNotOpen files shelf_faults meaning anything name old.shelf new.shelf stock disk fault
 
-  -- what the command comes to, by what went wrong
-  abbrev pub ComesTo : (name : Option (List ℕ)) → Rooms V S O E → Rooms V S O E → Stock → List (Worker C L) → Option D → Option Failure → Type 0
-  ComesTo name old new stock workers disk None = Serves name old new stock workers disk None
-  ComesTo name old new stock workers disk (Some (Session fault)) = Serves name old new stock workers disk (Some fault)
-  ComesTo name old new stock workers disk (Some Usage) = ServesNone name old new stock workers disk Usage
-  ComesTo name old new stock workers disk (Some (Configuration fault)) = ServesNone name old new stock workers disk (Configuration fault)
-  ComesTo name old new stock workers disk (Some NoStoreFile) = ServesNone name old new stock workers disk NoStoreFile
-  ComesTo name old new stock workers disk (Some (Store fault)) = ServesNone name old new stock workers disk (Store fault)
-  ComesTo name old new stock workers disk (Some (Output fault)) = ⊥
-  ComesTo name old new stock workers disk (Some NoSuchLink) = ⊥
-  ComesTo name old new stock workers disk (Some KindNotBuilt) = ⊥
-  ComesTo name old new stock workers disk (Some Undialled) = ⊥
-  ComesTo name old new stock workers disk (Some (Link fault)) = ⊥
+  -- what the command comes to
+  abbrev pub DoorComesTo :
+      (name : Option (List ℕ)) → Rooms V S O E → Rooms V S O E → Stock → List (Worker C L) → Option D → Option (Failure SessionFault) → Type 0
+  DoorComesTo name old new stock workers disk =
+      ComesTo (ServesNone name old new stock workers disk) (Serves name old new stock workers disk)

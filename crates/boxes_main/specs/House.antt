@@ -3,8 +3,7 @@ use Rattle.std.specs.Prelude.{◌≡◌, ℕ, Bool, List, [], Option, Some, None
 use Rattle.std.specs.Bool.{OnTrue}
 use Rattle.kn_base.specs.Count.{next_count}
 use Rattle.peer_dialer.specs.Dealings.{Dealings}
-use Rattle.store_disk.specs.Disk.{Areas}
-use Rattle.store_disk.specs.Story.{Story, untold}
+use Rattle.store_disk.specs.Story.{Story}
 
 -- what a house lends: the visitor on standard input and output, the files, standard output, and standard error
 pub record Rooms (V S O E : Type 0) : Type 0 where
@@ -13,10 +12,10 @@ pub record Rooms (V S O E : Type 0) : Type 0 where
   pub output : O
   pub errors : E
 
--- What a house hands out: the areas of its disk under a name, the birth of a store that isn't born, where that is told, and
+-- What a house hands out: what was done to its disk under a name before, the birth of a store that isn't born, where that is told, and
 -- how many disks it has made.
 pub record Stock : Type 0 where
-  pub disks : List ℕ → Areas
+  pub disks : List ℕ → Story
   pub word : Option ℕ
   pub made : ℕ
 
@@ -29,9 +28,9 @@ abbrev pub MakesFor : {D : Type 0} → Option D → Stock → Stock → Type 0
 MakesFor None old new = new ≡ old
 MakesFor (Some disk) old new = MakesOne old new
 
--- A disk that has made no call: where it tells its story, nothing was done to the stated areas.
-pub record IsNewDisk (tells : Bool) (story : Story) (calls faults : ℕ) (stated : Areas) : Type 0 where
-  pub told : OnTrue tells (story ≡ untold stated)
+-- A disk that has made no call: where it tells its story, it is the stated one.
+pub record IsNewDisk (tells : Bool) (story : Story) (calls faults : ℕ) (stated : Story) : Type 0 where
+  pub told : OnTrue tells (story ≡ stated)
   pub no_calls : calls ≡ 0
   pub no_faults : faults ≡ 0
 

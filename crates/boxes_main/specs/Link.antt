@@ -1,17 +1,13 @@
 -- What the command `link` comes to.
-use Rattle.std.specs.Prelude.{◌≡◌, ◌≢◌, ◌≤◌, ◌+◌, ◌*◌, ◌⊎◌, ⊤, ℕ, min, Bool, true, false, List, [], ◌∷◌, ◌++◌, length, take, All, slice_get, Option, Some, None, IfSome, IsSomeAnd, MatchOption, is_some, Ok, Err}
+use Rattle.std.specs.Prelude.{◌≡◌, ◌≢◌, ◌≤◌, ◌+◌, ◌⊎◌, ⊤, ℕ, min, Bool, true, false, List, [], ◌∷◌, length, take, All, slice_get, Option, Some, None, IfSome, IsSomeAnd, is_some, option_map}
 use Rattle.std.specs.Bool.{OnTrue}
 use Rattle.kn_base.specs.Count.{Counts, Rose, last_count}
-use Rattle.kn_base.specs.Talk.{heard_of, said_of, counts_of}
-use Rattle.kn_base.specs.declared.piece.Past.{Past}
+use Rattle.kn_base.specs.Talk.{heard_of, said_of}
 use Rattle.kn_base.specs.declared.piece.Piece.{Piece}
 use Rattle.config_groups.specs.declared.settings.Settings.{Settings}
 use Rattle.config_groups.specs.declared.settings.link_settings.LinkSettings.{LinkSettings}
 use Rattle.gate_entries.specs.declared.recorded.Recorded.{Recorded}
-use Rattle.gate_model.specs.Due.{HaveReports}
-use Rattle.gate_store.specs.Entries.{state_of}
-use Rattle.gate_store.specs.Reopening.{MayReopen, MayStandFor}
-use Rattle.gate_store.specs.Store.{rules_in, state_in, unsure_in, disk_in}
+use Rattle.gate_store.specs.Store.{state_in, unsure_in}
 use Rattle.gate_store.specs.declared.store.Store.{Store as Stored}
 use Rattle.link_core.specs.declared.out.Out.{Out}
 use Rattle.link_turn.specs.Steps.{Deed}
@@ -20,26 +16,34 @@ use Rattle.link_turn.specs.Turn.{IsOf, Leads}
 use Rattle.link_turn.specs.declared.end_cause.EndCause.{EndCause}
 use Rattle.link_turn.specs.declared.end_cause.EndCause.TheVariants as end_is
 use Rattle.link_turn.specs.declared.terms.Terms.{Terms}
+use Rattle.peer_dialer.specs.Closed.{counts_in}
 use Rattle.peer_dialer.specs.Dealings.{Dealings, asked_for}
+use Rattle.peer_dialer.specs.declared.closed.Closed.{Closed}
 use Rattle.route_rules.specs.declared.link_kind.LinkKind.TheVariants.{Smpp}
 use Rattle.route_rules.specs.declared.link_rule.LinkRule.{LinkRule}
 use Rattle.route_rules.specs.declared.rules.Rules.{Rules}
 use Rattle.smpp_link.specs.Hearing.{Hears, Refuses}
 use Rattle.smpp_link.specs.Saying as smpp
 use Rattle.store_disk.specs.Meaning.{Meaning}
-use Rattle.store_disk.specs.Disk.{Areas}
-use Rattle.store_disk.specs.Story.{IsImage, LeavesOnly, untold}
+use Rattle.store_disk.specs.Story.{Story, LeavesOnly}
 use Rattle.boxes_main.specs.Door.{octets_limit}
+use Rattle.boxes_main.specs.Failure.{ComesTo}
 use Rattle.boxes_main.specs.House.{Rooms, Stock}
-use Rattle.boxes_main.specs.LinkDeeds.{recorded_in, IsInDoubt, ReopensAmid}
-use Rattle.boxes_main.specs.Opening.{Reads, IsFound, IsNoStore}
+use Rattle.boxes_main.specs.Kept.{IsKept, MayLeave}
+use Rattle.boxes_main.specs.LinkDeeds.{recorded_in, calls_in, IsInDoubt, ReopensAmid}
+use Rattle.boxes_main.specs.Opening.{HasSettings, IsConfigured, IsFound, IsNotOpen}
 use Rattle.boxes_main.specs.Worker.{Worker, WasRead}
 use Rattle.boxes_main.specs.declared.command_end.Role.TheVariants as role_is
 use Rattle.boxes_main.specs.declared.command_end.SessionEnd.TheVariants as ended_as
 use Rattle.boxes_main.specs.declared.failure.Failure.{Failure}
-use Rattle.boxes_main.specs.declared.failure.Failure.TheVariants.{Usage, Configuration, NoSuchLink, KindNotBuilt, NoStoreFile, Store, Session, Undialled, Link, Output}
-use Rattle.boxes_main.specs.declared.link_session.LinkFault.{LinkFault}
-use Rattle.boxes_main.specs.declared.link_session.LinkFault.TheVariants as fault_is
+use Rattle.boxes_main.specs.declared.link_fault.ChoiceFault.{ChoiceFault}
+use Rattle.boxes_main.specs.declared.link_fault.ChoiceFault.TheVariants.{NoSuchLink, KindNotBuilt}
+use Rattle.boxes_main.specs.declared.link_fault.EndFault.{EndFault}
+use Rattle.boxes_main.specs.declared.link_fault.EndFault.TheVariants as fault_is
+use Rattle.boxes_main.specs.declared.link_fault.LinkFault.{LinkFault}
+use Rattle.boxes_main.specs.declared.link_fault.LinkFault.TheVariants.{Choice, Undialled, Session}
+use Rattle.boxes_main.specs.declared.opening_fault.OpeningFault.{OpeningFault}
+use Rattle.boxes_main.specs.declared.session_fault.SessionFault.TheVariants as session_is
 
 -- ---- which link
 
@@ -53,23 +57,29 @@ pub record IsFirst (id : List ℕ) (rules : List LinkRule) (number : ℕ) (rule 
   pub named : rule.id ≡ id
   pub others : HasNone id (take number rules)
 
-module _ {S : Type 0} (files : S → Option (List (List ℕ × List ℕ))) (shelf_faults : S → ℕ) where
-  -- the configuration that the words name was read, and has these settings
-  abbrev pub HasSettings : (words : Option (List ℕ × List ℕ)) → S → S → Settings → Type 0
-  HasSettings words old new settings = IsSomeAnd words (λ words. Reads files shelf_faults words.0 old new (Ok settings))
+-- It speaks SMPP, and reaches its centre so.
+pub record IsChosen (id : List ℕ) (settings : Settings) (number : ℕ) (centre : LinkSettings) : Type 0 where
+  pub rule : LinkRule
+  pub first : IsFirst id settings.rules.links number rule
+  pub kind : rule.kind ≡ Smpp
+  pub centre_is : slice_get settings.links number ≡ Some centre
 
-  -- The first link with the id that the words name.
-  pub record HasLink (words : Option (List ℕ × List ℕ)) (old new : S) (settings : Settings) (number : ℕ) (rule : LinkRule) : Type 0 where
-    pub reads : HasSettings words old new settings
-    pub first : IsSomeAnd words (λ words. IsFirst words.1 settings.rules.links number rule)
+-- why no link is chosen: none has the id, or the first one that has it speaks a protocol that isn't built
+abbrev pub IsUnchosen : Settings → (id : List ℕ) → ChoiceFault → Type 0
+IsUnchosen settings id NoSuchLink = HasNone id settings.rules.links
+IsUnchosen settings id KindNotBuilt = (number : ℕ) × (rule : LinkRule) × IsFirst id settings.rules.links number rule × (rule.kind ≢ Smpp)
 
-  -- It speaks SMPP with its centre, and there is a store.
-  pub record IsChosen (words : Option (List ℕ × List ℕ)) (old new : S) (settings : Settings) (number : ℕ) (centre : LinkSettings) : Type 0 where
-    pub rule : LinkRule
-    pub has : HasLink words old new settings number rule
-    pub kind : rule.kind ≡ Smpp
-    pub centre_is : slice_get settings.links number ≡ Some centre
-    pub store_file : settings.core.store_file ≢ []
+-- the name of a configuration in the words
+abbrev pub name_in : Option (List ℕ × List ℕ) → Option (List ℕ)
+name_in words = option_map (λ words. words.0) words
+
+-- a link is chosen by its id
+abbrev pub Chooses : Settings → (id : List ℕ) → (number : ℕ) → Type 0
+Chooses settings id number = (centre : LinkSettings) × IsChosen id settings number centre
+
+-- settings have the link that the words ask for
+abbrev pub HasChosen : Option (List ℕ × List ℕ) → Settings → Type 0
+HasChosen words settings = IsSomeAnd words (λ words. (number : ℕ) × Chooses settings words.1 number)
 
 -- ---- a session
 
@@ -113,20 +123,20 @@ IsCounted end_is.Memory heard counts = ⊤
 IsCounted end_is.Bye heard counts = ⊤
 
 -- what a session fails by: the disk, where an entry is unsure when the store is closed; or else its end
-abbrev pub link_fault : (is_unsure : Bool) → EndCause → Option LinkFault
-link_fault true cause = Some fault_is.Disk
+abbrev pub link_fault : (is_unsure : Bool) → EndCause → Option EndFault
+link_fault true cause = Some (fault_is.Session session_is.Disk)
 link_fault false end_is.PeerEnd = None
-link_fault false end_is.PeerFault = Some fault_is.Connection
+link_fault false end_is.PeerFault = Some (fault_is.Session session_is.Connection)
 link_fault false (end_is.LoginRefused code) = Some (fault_is.LoginRefused code)
 link_fault false (end_is.BadFrame at code) = Some (fault_is.BadFrame at)
 link_fault false (end_is.NoReply tag sent now) = Some (fault_is.NoReply tag)
-link_fault false end_is.Disk = Some fault_is.Disk
+link_fault false end_is.Disk = Some (fault_is.Session session_is.Disk)
 link_fault false end_is.Full = Some fault_is.Full
-link_fault false end_is.Memory = Some fault_is.Memory
+link_fault false end_is.Memory = Some (fault_is.Session session_is.Memory)
 link_fault false end_is.Bye = None
 link_fault false end_is.Closed = None
-link_fault false (end_is.Budget taken) = Some fault_is.Budget
-link_fault false (end_is.QuietLimit turns) = Some fault_is.Budget
+link_fault false (end_is.Budget taken) = Some (fault_is.Session session_is.Budget)
+link_fault false (end_is.QuietLimit turns) = Some (fault_is.Session session_is.Budget)
 
 -- what a session of a link goes by
 abbrev pub terms_for : (number : ℕ) → LinkSettings → Terms
@@ -148,40 +158,33 @@ abbrev pub Talks : (number : ℕ) → LinkSettings → List Piece → (readings 
 Talks number centre pieces readings deeds cause =
     LinkTalk Hears Refuses (said_to centre) (terms_for number centre) (heard_of pieces) (said_of pieces) readings deeds (talk_cause cause)
 
--- what became of the connection
-abbrev pub IsPast : List Piece → Counts → Past → Type 0
-IsPast pieces counts past = (past.pieces ≡ pieces) × (counts ≡ counts_of past)
+-- what became of the connection: what was heard and said in it, where that is told
+abbrev pub IsPast : List Piece → Closed → Type 0
+IsPast pieces past = IfSome past.pieces (λ told. told ≡ pieces)
 
 -- ---- the store
 
 module _ {D : Type 0} (meaning : Meaning D) where
-  -- What became of a store over which a link's deeds were done, from when it was opened, as that of the areas, to when it was closed. Whatever a
-  -- stop leaves of the disk that is handed back stands for the store with what they recorded behind its entries, or, where one is unsure, for
-  -- that with it. At the end the link holds no message, and is down; and of what they recorded, the reports that are awaited are those that it leaves
-  -- open, and the jobs that are held those that it makes due.
-  pub record IsKept (rules : Rules) (number : ℕ) (areas : Areas) (word : Option ℕ) (deeds : List Deed) (disk : D) (unsure : Option Recorded) : Type 0 where
+  -- What became of a store over which a link's deeds were done, from when it was opened, on a disk with this story, to when it was closed. At
+  -- the end the link holds no message, and is down.
+  pub record Keeps (rules : Rules) (number : ℕ) (begun : Story) (word : Option ℕ) (deeds : List Deed) (disk : D) (unsure : Option Recorded) : Type 0 where
     pub birth : ℕ
     pub entries : List Recorded
-    pub found : IsFound meaning.tells areas word rules birth entries
+    pub found : IsFound meaning.tells begun word rules birth entries
     pub opened : Stored D
     pub closed : Stored D
-    pub ruled : rules_in opened ≡ rules
-    pub began : state_in opened ≡ state_of birth rules entries
     pub led : Leads meaning number opened deeds closed
+    pub kept : IsKept meaning rules birth entries (recorded_in rules number deeds) opened closed disk
     pub left : IsOf number [] false (state_in closed)
-    pub back : disk ≡ disk_in closed
     pub unsure_is : unsure ≡ unsure_in closed
     pub doubt : IfSome unsure (IsInDoubt rules number deeds)
     pub rose : IfSome unsure (λ _. Rose 0 (meaning.faults disk))
-    pub stands : OnTrue meaning.tells ((image : Areas) → IsImage (story disk) image → MayStandFor birth (entries ++ recorded_in rules number deeds) unsure image)
-    pub stops : OnTrue meaning.tells ((image : Areas) → IsImage (story disk) image → MayReopen birth rules (state_of birth rules (entries ++ recorded_in rules number deeds)) unsure image)
-    pub reports : HaveReports birth (state_of birth rules entries) (recorded_in rules number deeds) (state_in closed)
-    pub amid : OnTrue meaning.tells (LeavesOnly (untold areas) (story disk) (ReopensAmid rules number birth entries deeds))
-    pub bounded : meaning.calls disk ≤ 20 + 6 * length deeds
+    pub amid : OnTrue meaning.tells (LeavesOnly begun (meaning.story disk) (MayLeave rules begun (ReopensAmid rules number birth entries deeds)))
+    pub bounded : meaning.calls disk ≤ 20 + calls_in deeds
 
 -- a fault of the disk is told only where its count rose
-abbrev pub DiskRose : Option LinkFault → (faults : ℕ) → Type 0
-DiskRose (Some fault_is.Disk) faults = Rose 0 faults
+abbrev pub DiskRose : Option EndFault → (faults : ℕ) → Type 0
+DiskRose (Some (fault_is.Session session_is.Disk)) faults = Rose 0 faults
 DiskRose fault faults = ⊤
 
 -- ---- what is left
@@ -198,33 +201,32 @@ module _ {C L : Type 0} (readings_of : C → Option (List ℕ)) (dealings : L �
 module _ {D C L : Type 0} (meaning : Meaning D) (readings_of : C → Option (List ℕ)) (dealings : L → Dealings) where
   -- A session was held, and is all that one worker left.
   pub record IsHeld
-      (rules : Rules) (number : ℕ) (centre : LinkSettings) (areas : Areas) (word : Option ℕ) (workers : List (Worker C L)) (disk : Option D) (fault : Option LinkFault) : Type 0 where
+      (rules : Rules) (number : ℕ) (centre : LinkSettings) (begun : Story) (word : Option ℕ) (workers : List (Worker C L)) (disk : Option D) (fault : Option EndFault) : Type 0 where
     pub cause : EndCause
     pub pieces : List Piece
     pub readings : List ℕ
     pub deeds : List Deed
     pub talks : Talks number centre pieces readings deeds cause
-    pub counts : Counts
-    pub counted : IsCounted cause (length (heard_of pieces)) counts
+    pub past : Closed
+    pub past_is : IsPast pieces past
+    pub counted : IsCounted cause (length (heard_of pieces)) (counts_in past)
     pub dialer : L
     pub worker : Worker C L
     pub alone : workers ≡ worker ∷ []
     pub left : IsLinkWorker readings_of dealings number centre readings dialer worker
     pub ends : worker.ends ≡ ended_as.Link cause ∷ []
-    pub past : Option Past
-    pub past_is : IfSome past (IsPast pieces counts)
-    pub pasts : MatchOption past (worker.pasts ≡ []) (λ past. worker.pasts ≡ past ∷ [])
+    pub pasts : worker.pasts ≡ past ∷ []
     pub after : D
     pub handed_back : disk ≡ Some after
     pub unsure : Option Recorded
-    pub kept : IsKept meaning rules number areas word deeds after unsure
+    pub keeps : Keeps meaning rules number begun word deeds after unsure
     pub failed : fault ≡ link_fault (is_some unsure) cause
     pub rose : DiskRose fault (meaning.faults after)
 
   -- The centre was dialled, and no connection made: the count of failed dials rose, or the dialer has no peers. No session was held, and the store is
   -- as it was.
   pub record IsUndialled
-      (rules : Rules) (number : ℕ) (centre : LinkSettings) (areas : Areas) (word : Option ℕ) (workers : List (Worker C L)) (disk : Option D) : Type 0 where
+      (rules : Rules) (number : ℕ) (centre : LinkSettings) (begun : Story) (word : Option ℕ) (workers : List (Worker C L)) (disk : Option D) : Type 0 where
     pub dialer : L
     pub worker : Worker C L
     pub alone : workers ≡ worker ∷ []
@@ -234,69 +236,53 @@ module _ {D C L : Type 0} (meaning : Meaning D) (readings_of : C → Option (Lis
     pub cause : Rose 0 (dealings dialer).faults ⊎ ((dealings dialer).left ≡ Some 0)
     pub after : D
     pub handed_back : disk ≡ Some after
-    pub kept : IsKept meaning rules number areas word [] after None
-
-module _
-    {S D : Type 0} (files : S → Option (List (List ℕ × List ℕ))) (shelf_faults : S → ℕ)
-    (meaning : Meaning D) where
-  -- Why no store stands open, by what went wrong: the words are none of the command's; the configuration was refused, has no link with the id, or
-  -- one of a protocol that isn't built, or names no store; or its store wasn't opened on the house's disk under that name, or there was no memory for
-  -- it and the session.
-  abbrev pub IsNotLinked : (words : Option (List ℕ × List ℕ)) → S → S → Stock → Option D → Failure → Type 0
-  IsNotLinked words old new stock disk Usage = (words ≡ None) × (new ≡ old) × (disk ≡ None)
-  IsNotLinked words old new stock disk (Configuration fault) = IsSomeAnd words (λ words. Reads files shelf_faults words.0 old new (Err fault)) × (disk ≡ None)
-  IsNotLinked words old new stock disk NoSuchLink =
-      (settings : Settings) × HasSettings files shelf_faults words old new settings × IsSomeAnd words (λ words. HasNone words.1 settings.rules.links) × (disk ≡ None)
-  IsNotLinked words old new stock disk KindNotBuilt =
-      (settings : Settings) × (number : ℕ) × (rule : LinkRule) × HasLink files shelf_faults words old new settings number rule × (rule.kind ≢ Smpp) × (disk ≡ None)
-  IsNotLinked words old new stock disk NoStoreFile =
-      (settings : Settings) × (number : ℕ) × (rule : LinkRule) × HasLink files shelf_faults words old new settings number rule
-      × (rule.kind ≡ Smpp) × (settings.core.store_file ≡ []) × (disk ≡ None)
-  IsNotLinked words old new stock disk (Store fault) =
-      (settings : Settings) × (number : ℕ) × (centre : LinkSettings) × IsChosen files shelf_faults words old new settings number centre
-      × IsNoStore meaning (stock.disks settings.core.store_file) settings.rules disk fault
-  IsNotLinked words old new stock disk (Session fault) = ⊥
-  IsNotLinked words old new stock disk Undialled = ⊥
-  IsNotLinked words old new stock disk (Link fault) = ⊥
-  IsNotLinked words old new stock disk (Output fault) = ⊥
+    pub keeps : Keeps meaning rules number begun word [] after None
 
 module _
     {V S O E D C L : Type 0} (files : S → Option (List (List ℕ × List ℕ))) (shelf_faults : S → ℕ)
-    (meaning : Meaning D) (readings_of : C → Option (List ℕ)) (dealings : L → Dealings) where
+    (meaning : Meaning D) (readings_of : C → Option (List ℕ)) (dealings : L → Dealings)
+    (words : Option (List ℕ × List ℕ)) (old new : Rooms V S O E) (stock : Stock) (workers : List (Worker C L)) (disk : Option D) where
+  -- The link was chosen, and the configuration names a store.
+  pub record HasLink (settings : Settings) (number : ℕ) (centre : LinkSettings) : Type 0 where
+    pub configured : IsConfigured files shelf_faults (name_in words) old.shelf new.shelf settings
+    pub chosen : IsSomeAnd words (λ words. IsChosen words.1 settings number centre)
+
   -- The link was chosen, the store stood open, on the house's disk under the name that it says, and a session was held over it.
-  pub record Holds
-      (words : Option (List ℕ × List ℕ)) (old new : Rooms V S O E) (stock : Stock) (workers : List (Worker C L)) (disk : Option D) (fault : Option LinkFault) : Type 0 where
+  pub record Holds (fault : Option EndFault) : Type 0 where
     pub settings : Settings
     pub number : ℕ
     pub centre : LinkSettings
-    pub chosen : IsChosen files shelf_faults words old.shelf new.shelf settings number centre
+    pub linked : HasLink settings number centre
     pub held : IsHeld meaning readings_of dealings settings.rules number centre (stock.disks settings.core.store_file) stock.word workers disk fault
 
   -- The same, but no connection was made.
-  pub record DialsNone
-      (words : Option (List ℕ × List ℕ)) (old new : Rooms V S O E) (stock : Stock) (workers : List (Worker C L)) (disk : Option D) : Type 0 where
+  pub record DialsNone : Type 0 where
     pub settings : Settings
     pub number : ℕ
     pub centre : LinkSettings
-    pub chosen : IsChosen files shelf_faults words old.shelf new.shelf settings number centre
+    pub linked : HasLink settings number centre
     pub undialled : IsUndialled meaning readings_of dealings settings.rules number centre (stock.disks settings.core.store_file) stock.word workers disk
 
-  -- No store stood open, nothing was dialled, and no worker left anything.
-  pub record LinksNone
-      (words : Option (List ℕ × List ℕ)) (old new : Rooms V S O E) (stock : Stock) (workers : List (Worker C L)) (disk : Option D) (failure : Failure) : Type 0 where
+  -- The configuration was read, and no link chosen. No store was opened, nothing was dialled, and no worker left anything.
+  pub record ChoosesNone (fault : ChoiceFault) : Type 0 where
+    pub settings : Settings
+    pub reads : HasSettings files shelf_faults (name_in words) old.shelf new.shelf settings
+    pub why : IsSomeAnd words (λ words. IsUnchosen settings words.1 fault)
     pub no_worker : workers ≡ []
-    pub cause : IsNotLinked files shelf_faults meaning words old.shelf new.shelf stock disk failure
+    pub no_disk : disk ≡ None
 
-  -- what the command comes to, by what went wrong
-  abbrev pub ComesToLink : (words : Option (List ℕ × List ℕ)) → Rooms V S O E → Rooms V S O E → Stock → List (Worker C L) → Option D → Option Failure → Type 0
-  ComesToLink words old new stock workers disk None = Holds words old new stock workers disk None
-  ComesToLink words old new stock workers disk (Some (Link fault)) = Holds words old new stock workers disk (Some fault)
-  ComesToLink words old new stock workers disk (Some Undialled) = DialsNone words old new stock workers disk
-  ComesToLink words old new stock workers disk (Some Usage) = LinksNone words old new stock workers disk Usage
-  ComesToLink words old new stock workers disk (Some (Configuration fault)) = LinksNone words old new stock workers disk (Configuration fault)
-  ComesToLink words old new stock workers disk (Some NoSuchLink) = LinksNone words old new stock workers disk NoSuchLink
-  ComesToLink words old new stock workers disk (Some KindNotBuilt) = LinksNone words old new stock workers disk KindNotBuilt
-  ComesToLink words old new stock workers disk (Some NoStoreFile) = LinksNone words old new stock workers disk NoStoreFile
-  ComesToLink words old new stock workers disk (Some (Store fault)) = LinksNone words old new stock workers disk (Store fault)
-  ComesToLink words old new stock workers disk (Some (Session fault)) = ⊥
-  ComesToLink words old new stock workers disk (Some (Output fault)) = ⊥
+  -- No store stood open, nothing was dialled, and no worker left anything.
+  pub record LinksNone (fault : OpeningFault) : Type 0 where
+    pub no_worker : workers ≡ []
+    pub cause : IsNotOpen files shelf_faults meaning (HasChosen words) (name_in words) old.shelf new.shelf stock disk fault
+
+  -- what the command did behind its opening
+  abbrev pub Links : Option LinkFault → Type 0
+  Links None = Holds None
+  Links (Some (Session fault)) = Holds (Some fault)
+  Links (Some Undialled) = DialsNone
+  Links (Some (Choice fault)) = ChoosesNone fault
+
+  -- what the command comes to
+  abbrev pub LinkComesTo : Option (Failure LinkFault) → Type 0
+  LinkComesTo = ComesTo LinksNone Links

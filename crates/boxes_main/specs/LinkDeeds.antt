@@ -1,16 +1,31 @@
 -- What the deeds of a link's session record in a store, and what is in doubt behind them. A list of deeds has the newest first.
-use Rattle.std.specs.Prelude.{◌≡◌, ◌⊎◌, ℕ, Bool, true, false, List, [], ◌∷◌, ◌++◌, Option, Some, None, IfSome, Ok, Err}
+use Rattle.std.specs.Prelude.{◌≡◌, ◌⊎◌, ◌+◌, ℕ, Bool, true, false, List, [], ◌∷◌, ◌++◌, Option, Some, None, IfSome, Ok, Err, if◌then◌else◌}
 use Rattle.gate_entries.specs.declared.cause.Cause.TheVariants.{Expired}
 use Rattle.gate_entries.specs.declared.recorded.Recorded.{Recorded}
 use Rattle.gate_entries.specs.declared.recorded.Recorded.TheVariants as entry
 use Rattle.gate_model.specs.Gate.{id_of}
-use Rattle.gate_store.specs.Deeds.{is_by_disk, put_behind}
+use Rattle.gate_store.specs.Deeds.{is_by_disk, is_disk, put_behind}
 use Rattle.gate_store.specs.Entries.{state_of}
 use Rattle.gate_store.specs.Reopening.{MayReopen}
 use Rattle.gate_store.specs.declared.taken.Taken.TheVariants as taken
 use Rattle.link_turn.specs.Steps.{Deed, performed, passed, took}
+use Rattle.boxes_main.specs.Kept.{calls_for}
 use Rattle.route_rules.specs.declared.rules.Rules.{Rules}
 use Rattle.store_disk.specs.Disk.{Areas}
+
+-- the most disk calls of a deed
+abbrev pub calls_by : Deed → ℕ
+calls_by (performed kept outcome) = calls_for outcome
+calls_by (passed brief) = 0
+calls_by (took now (Ok None)) = 0
+calls_by (took now (Ok (Some (taken.Send message sms)))) = 0
+calls_by (took now (Ok (Some (taken.Expired message)))) = 4
+calls_by (took now (Err refusal)) = if is_disk refusal then 6 else 0
+
+-- and of deeds
+abbrev pub calls_in : List Deed → ℕ
+calls_in [] = 0
+calls_in (deed ∷ before) = calls_in before + calls_by deed
 
 module _ (rules : Rules) (link : ℕ) where
   -- the entry by which a message is given up whose validity has passed when it was to be taken

@@ -1,17 +1,16 @@
 -- The steps of `link`. No public clause cites these.
-use Rattle.std.specs.Prelude.{◌≡◌, ◌≢◌, ◌≤◌, ◌<◌, ◌+◌, ◌-◌, ◌*◌, ◌^◌, ◌⊎◌, ◌==◌, ℕ, min, Bool, true, false, if◌then◌else◌, List, [], ◌∷◌, length, Option, Some, None, IfSome, MatchOption, is_some, option_map, slice_get, Ok}
-use Rattle.std.specs.Option.{option_map_or}
+use Rattle.std.specs.Prelude.{◌≡◌, ◌≢◌, ◌≤◌, ◌<◌, ◌+◌, ◌-◌, ◌*◌, ◌^◌, ◌⊎◌, ◌==◌, ℕ, min, Bool, true, false, if◌then◌else◌, List, [], ◌∷◌, length, Option, Some, None, MatchOption, is_some, option_map, slice_get, Ok}
 use Rattle.kn_base.specs.Clock.{AddsAll}
-use Rattle.kn_base.specs.Count.{Counts, no_counts, Rose}
+use Rattle.kn_base.specs.Count.{no_counts, Rose}
 use Rattle.kn_base.specs.Course.{Course}
 use Rattle.kn_base.specs.Talk.{heard_of, said_of}
-use Rattle.kn_base.specs.declared.piece.Past.{Past}
 use Rattle.kn_base.specs.declared.piece.Piece.{Piece}
 use Rattle.config_groups.specs.Ranges.{AreSettings}
 use Rattle.config_groups.specs.declared.settings.Settings.{Settings}
 use Rattle.config_groups.specs.declared.settings.link_settings.LinkSettings.{LinkSettings}
 use Rattle.gate_store.specs.Store.{IsOpen, IsOpened, rules_in, state_in}
 use Rattle.gate_store.specs.declared.store.Store.{Store as Stored}
+use Rattle.gate_store.specs.declared.store_fault.StoreFault.{StoreFault}
 use Rattle.link_core.specs.declared.heard.Heard.{Heard}
 use Rattle.link_core.specs.declared.out.Out.{Out}
 use Rattle.link_turn.specs.Session.{Talk, no_talk, spoken_in, IsNew, IsSession}
@@ -24,7 +23,9 @@ use Rattle.link_turn.specs.declared.end_cause.EndCause.TheVariants as end_is
 use Rattle.link_turn.specs.declared.session.Session.{Session}
 use Rattle.link_turn.specs.declared.terms.Terms.{Terms}
 use Rattle.link_turn.specs.declared.wish.Wish.TheVariants.{Listen}
+use Rattle.peer_dialer.specs.Closed.{counts_in}
 use Rattle.peer_dialer.specs.Dealings.{Dealings, Adds, Stays, asked_for}
+use Rattle.peer_dialer.specs.declared.closed.Closed.{Closed}
 use Rattle.route_rules.specs.declared.link_kind.LinkKind.{LinkKind}
 use Rattle.route_rules.specs.declared.link_kind.LinkKind.TheVariants.{Smpp}
 use Rattle.route_rules.specs.declared.link_rule.LinkRule.{LinkRule}
@@ -35,19 +36,23 @@ use Rattle.smpp_link.specs.Saying as smpp
 use Rattle.smpp_link.specs.Tags.{last_tag, next_tag}
 use Rattle.smpp_wire.specs.Command.{BindFields}
 use Rattle.store_disk.specs.Meaning.{Meaning}
-use Rattle.store_disk.specs.Disk.{Areas}
+use Rattle.store_disk.specs.Story.{Story}
 use Rattle.store_disk.specs.Story.{Story}
 use Rattle.boxes_main.specs.Door.{octets_limit}
-use Rattle.boxes_main.specs.Failure.{status_of}
+use Rattle.boxes_main.specs.Failure.{ComesTo, row_of, status_of}
 use Rattle.boxes_main.specs.House.{Rooms, Stock, MakesFor, IsToldWord}
-use Rattle.boxes_main.specs.Link.{quiets_limit, talk_cause, RoseBy, IsCounted, link_fault, terms_for, HasNone, IsFirst, IsPast, IsHeld, IsUndialled, ComesToLink}
-use Rattle.boxes_main.specs.Opening.{IsHouseDisk, IsNoStore}
-use Rattle.boxes_main.specs.Opening.{Reads}
+use Rattle.boxes_main.specs.Link.{quiets_limit, talk_cause, RoseBy, IsCounted, link_fault, terms_for, IsFirst, Chooses, IsPast, IsHeld, IsUndialled, IsUnchosen, LinkComesTo}
+use Rattle.boxes_main.specs.LinkFault.{link_row}
+use Rattle.boxes_main.specs.Opening.{Reads, IsHouseDisk, IsNoStore, IsNotOpen}
 use Rattle.boxes_main.specs.Worker.{Worker}
 use Rattle.boxes_main.specs.declared.command_end.SessionEnd.{SessionEnd}
 use Rattle.boxes_main.specs.declared.command_end.SessionEnd.TheVariants as ended_as
 use Rattle.boxes_main.specs.declared.failure.Failure.{Failure}
-use Rattle.boxes_main.specs.declared.failure.Failure.TheVariants.{NoSuchLink, KindNotBuilt, NoStoreFile, Store, Undialled, Link}
+use Rattle.boxes_main.specs.declared.failure.Failure.TheVariants.{Opening, Own}
+use Rattle.boxes_main.specs.declared.link_fault.LinkFault.{LinkFault}
+use Rattle.boxes_main.specs.declared.link_fault.LinkFault.TheVariants.{Choice, Undialled, Session as Failed}
+use Rattle.boxes_main.specs.declared.opening_fault.OpeningFault.{OpeningFault}
+use Rattle.boxes_main.specs.declared.opening_fault.OpeningFault.TheVariants as opening_is
 use Rattle.boxes_main.specs.declared.link_session.Held.{Held}
 use Rattle.boxes_main.specs.declared.link_session.Limit.{Limit}
 use Rattle.boxes_main.specs.declared.link_session.Limit.TheVariants.{Octets, Quiets}
@@ -146,15 +151,14 @@ module _
     pub readings : List ℕ
     pub deeds : List Deed
     pub talks : LinkTalk hears refuses (said core) terms (heard_of pieces) (said_of pieces) readings deeds (talk_cause held.cause)
-    pub counts : Counts
-    pub counted : IsCounted held.cause (length (heard_of pieces)) counts
+    pub counted : IsCounted held.cause (length (heard_of pieces)) (counts_in held.past)
     pub clock : AddsAll readings told now_told
     pub led : Leads meaning terms.link store deeds after
     pub ruled : rules_in after ≡ rules_in store
     pub opened : IsOpen meaning after
     pub left : IsOf terms.link [] false (state_in after)
-    pub past_is : IfSome held.past (IsPast pieces counts)
-    pub pasts : IfSome now.pasts (λ _. (past : Past) × (held.past ≡ Some past) × Adds past before.pasts now.pasts)
+    pub past_is : IsPast pieces held.past
+    pub pasts : Adds held.past before.pasts now.pasts
     pub same : now ≡ record before { pasts = now.pasts }
 
   -- nothing was dialled: the count of failed dials rose, or the dialer has no peers; and nothing was done
@@ -172,19 +176,19 @@ module _
     pub stays : Stays before.pasts between.pasts
     pub so : MatchOption held (CallsNone told now_told store after before now) (λ held. HoldsWith core terms told now_told store after between now held)
 
--- the failure of the command, by whether an entry is unsure, and by what was held
-abbrev pub failure_by : (is_unsure : Bool) → Option Held → Option Failure
+-- what the command fails by behind its opening, by whether an entry is unsure, and by what was held
+abbrev pub failure_by : (is_unsure : Bool) → Option Held → Option LinkFault
 failure_by is_unsure None = Some Undialled
-failure_by is_unsure (Some held) = option_map Link (link_fault is_unsure held.cause)
+failure_by is_unsure (Some held) = option_map Failed (link_fault is_unsure held.cause)
 
 -- the ends that are left of what was held, and what became of the connection
 abbrev pub ends_by : Option Held → List SessionEnd
 ends_by None = []
 ends_by (Some held) = ended_as.Link held.cause ∷ []
 
-abbrev pub pasts_by : Option Held → List Past
+abbrev pub pasts_by : Option Held → List Closed
 pasts_by None = []
-pasts_by (Some held) = option_map_or (λ past. past ∷ []) held.past []
+pasts_by (Some held) = held.past ∷ []
 
 -- A session of SMPP that hasn't begun.
 pub record IsNewSession (number : ℕ) (centre : LinkSettings) (session : Session BindFields) : Type 0 where
@@ -209,64 +213,66 @@ pub record IsLinked (settings : Settings) (number : ℕ) (centre : LinkSettings)
 abbrev pub HasCentre : Settings → (number : ℕ) → Type 0
 HasCentre settings number = (centre : LinkSettings) × IsLinked settings number centre
 
--- which link is chosen, or why none is
-pub record Chooses (settings : Settings) (id : List ℕ) (number : ℕ) : Type 0 where
-  pub rule : LinkRule
-  pub first : IsFirst id settings.rules.links number rule
-  pub kind : rule.kind ≡ Smpp
-  pub centre : LinkSettings
-  pub centre_is : slice_get settings.links number ≡ Some centre
+-- The configuration was read, and a link of it chosen; it names a store.
+pub record IsChosenIn {S : Type 0} (files : S → Option (List (List ℕ × List ℕ))) (shelf_faults : S → ℕ) (name id : List ℕ) (old new : S) (settings : Settings) (number : ℕ) : Type 0 where
+  pub in_range : AreSettings settings
+  pub reads : Reads files shelf_faults name old new (Ok settings)
+  pub chosen : Chooses settings id number
   pub store_file : settings.core.store_file ≢ []
 
-abbrev pub ChoosesNone : Settings → (id : List ℕ) → Failure → Type 0
-ChoosesNone settings id NoSuchLink = HasNone id settings.rules.links
-ChoosesNone settings id KindNotBuilt = (number : ℕ) × (rule : LinkRule) × IsFirst id settings.rules.links number rule × (rule.kind ≢ Smpp)
-ChoosesNone settings id NoStoreFile =
-    (number : ℕ) × (rule : LinkRule) × IsFirst id settings.rules.links number rule × (rule.kind ≡ Smpp) × (settings.core.store_file ≡ [])
-ChoosesNone settings id failure = ⊥
-
--- the configuration was read, and a link of it chosen
-abbrev pub IsChosenIn : {S : Type 0} → (S → Option (List (List ℕ × List ℕ))) → (S → ℕ) → (name id : List ℕ) → S → S → Settings → (number : ℕ) → Type 0
-IsChosenIn files shelf_faults name id old new settings number =
-    AreSettings settings × Reads files shelf_faults name old new (Ok settings) × Chooses settings id number
+-- it wasn't read, or no link of it was chosen, or it names no store
+abbrev pub IsUnchosenIn : {S D : Type 0} → (S → Option (List (List ℕ × List ℕ))) → (S → ℕ) → Meaning D
+    → (name id : List ℕ) → S → S → Stock → Failure LinkFault → Type 0
+IsUnchosenIn files shelf_faults meaning name id old new stock (Opening fault) =
+    IsNotOpen files shelf_faults meaning (λ settings. (number : ℕ) × Chooses settings id number) (Some name) old new stock None fault
+IsUnchosenIn files shelf_faults meaning name id old new stock (Own (Choice fault)) =
+    (settings : Settings) × Reads files shelf_faults name old new (Ok settings) × IsUnchosen settings id fault
+IsUnchosenIn files shelf_faults meaning name id old new stock (Own fault) = ⊥
 
 module _
     {D C L : Type 0} (meaning : Meaning D) (readings_of : C → Option (List ℕ)) (dealings : L → Dealings) where
   -- what was served, by what went wrong
-  abbrev pub ServedSo : Rules → (number : ℕ) → LinkSettings → Areas → Option ℕ → List (Worker C L) → Option D → Option Failure → Type 0
-  ServedSo rules number centre areas word workers disk None = IsHeld meaning readings_of dealings rules number centre areas word workers disk None
-  ServedSo rules number centre areas word workers disk (Some (Link fault)) =
-      IsHeld meaning readings_of dealings rules number centre areas word workers disk (Some fault)
-  ServedSo rules number centre areas word workers disk (Some Undialled) = IsUndialled meaning readings_of dealings rules number centre areas word workers disk
-  ServedSo rules number centre areas word workers disk (Some failure) = ⊥
+  abbrev pub ServedSo : Rules → (number : ℕ) → LinkSettings → Story → Option ℕ → List (Worker C L) → Option D → Option LinkFault → Type 0
+  ServedSo rules number centre begun word workers disk None = IsHeld meaning readings_of dealings rules number centre begun word workers disk None
+  ServedSo rules number centre begun word workers disk (Some (Failed fault)) =
+      IsHeld meaning readings_of dealings rules number centre begun word workers disk (Some fault)
+  ServedSo rules number centre begun word workers disk (Some Undialled) = IsUndialled meaning readings_of dealings rules number centre begun word workers disk
+  ServedSo rules number centre begun word workers disk (Some (Choice fault)) = ⊥
 
-  -- what came of opening the store of settings and dialling the centre of a link, by what went wrong
-  abbrev pub ChosenSo : Settings → (number : ℕ) → LinkSettings → Stock → List (Worker C L) → Option D → Option Failure → Type 0
-  ChosenSo settings number centre stock workers disk (Some (Store fault)) =
-      (workers ≡ []) × IsNoStore meaning (stock.disks settings.core.store_file) settings.rules disk fault
-  ChosenSo settings number centre stock workers disk failure =
-      ServedSo settings.rules number centre (stock.disks settings.core.store_file) stock.word workers disk failure
+  -- Its store wasn't opened.
+  pub record StoresNone (settings : Settings) (stock : Stock) (workers : List (Worker C L)) (disk : Option D) (why : OpeningFault) : Type 0 where
+    pub no_worker : workers ≡ []
+    pub fault : StoreFault
+    pub failed : why ≡ opening_is.Store fault
+    pub cause : IsNoStore meaning (stock.disks settings.core.store_file) settings.rules disk fault
+
+  -- what came of opening the store of settings and dialling the centre of a link
+  abbrev pub ChosenSo : Settings → (number : ℕ) → LinkSettings → Stock → List (Worker C L) → Option D → Option (Failure LinkFault) → Type 0
+  ChosenSo settings number centre stock workers disk =
+      ComesTo (StoresNone settings stock workers disk) (ServedSo settings.rules number centre (stock.disks settings.core.store_file) stock.word workers disk)
 
 module _
     {V S O E D C L : Type 0} (meaning : Meaning D) (readings_of : C → Option (List ℕ)) (dealings : L → Dealings) where
   -- A centre was dialled over a store that stood open, and the store was closed.
   pub record ServesLink
       (number : ℕ) (centre : LinkSettings) (old new : Rooms V S O E) (before after : Stock) (store : Stored D)
-      (status : ℕ) (failure : Option Failure) (disk : Option D) (workers : List (Worker C L)) : Type 0 where
+      (status : ℕ) (failure : Option (Failure LinkFault)) (disk : Option D) (workers : List (Worker C L)) : Type 0 where
     pub others : new ≡ old
     pub stock : after ≡ before
-    pub right : status ≡ status_of failure
+    pub right : status ≡ status_of (row_of link_row) failure
     pub back : is_some disk ≡ true
-    pub served : (rules : Rules) (areas : Areas) (word : Option ℕ) (birth : ℕ) (found : D) → IsToldWord word birth
-        → IsHouseDisk meaning areas found → IsOpened meaning found rules birth store
-        → ServedSo meaning readings_of dealings rules number centre areas word workers disk failure
+    pub fault : Option LinkFault
+    pub failed : failure ≡ option_map Own fault
+    pub served : (rules : Rules) (begun : Story) (word : Option ℕ) (birth : ℕ) (found : D) → IsToldWord word birth
+        → IsHouseDisk meaning begun found → IsOpened meaning found rules birth store
+        → ServedSo meaning readings_of dealings rules number centre begun word workers disk fault
 
   -- The store of settings was opened, and the centre of a link dialled over it; or it wasn't.
   pub record ServesChosen
       (settings : Settings) (number : ℕ) (old new : Rooms V S O E) (before after : Stock)
-      (status : ℕ) (failure : Option Failure) (disk : Option D) (workers : List (Worker C L)) : Type 0 where
+      (status : ℕ) (failure : Option (Failure LinkFault)) (disk : Option D) (workers : List (Worker C L)) : Type 0 where
     pub others : new ≡ old
-    pub right : status ≡ status_of failure
+    pub right : status ≡ status_of (row_of link_row) failure
     pub made : MakesFor disk before after
     pub so : (centre : LinkSettings) → IsLinked settings number centre → ChosenSo meaning readings_of dealings settings number centre before workers disk failure
 
@@ -276,8 +282,8 @@ module _
   -- The command came to its end, but for what it says of a failure.
   pub record EndsLink
       (words : Option (List ℕ × List ℕ)) (old new : Rooms V S O E) (before after : Stock)
-      (status : ℕ) (failure : Option Failure) (disk : Option D) (workers : List (Worker C L)) : Type 0 where
+      (status : ℕ) (failure : Option (Failure LinkFault)) (disk : Option D) (workers : List (Worker C L)) : Type 0 where
     pub others : new ≡ record old { shelf = new.shelf }
-    pub right : status ≡ status_of failure
+    pub right : status ≡ status_of (row_of link_row) failure
     pub made : MakesFor disk before after
-    pub comes_to : ComesToLink files shelf_faults meaning readings_of dealings words old new before workers disk failure
+    pub comes_to : LinkComesTo files shelf_faults meaning readings_of dealings words old new before workers disk failure

@@ -7,6 +7,7 @@ use Rattle.kn_base.specs.declared.mem_shelf.MemShelf.{MemShelf}
 use Rattle.kn_base.specs.declared.meter.Meter.{Ghosts}
 use Rattle.peer_dialer.specs.MemDialer.{peers_of, dials_of}
 use Rattle.peer_dialer.specs.declared.mem_dialer.MemDialer.{MemDialer}
+use Rattle.store_disk.specs.Story.{untold}
 use Rattle.store_disk.specs.declared.mem_disk.MemDisk.{MemDisk}
 use Rattle.boxes_main.specs.House.{Rooms, Stock}
 use Rattle.boxes_main.specs.Disks.{disk_under, areas_in}
@@ -24,7 +25,7 @@ module _ {P : Type 0} {meter : Ghosts P} where
 
   -- what it hands out
   abbrev pub mem_stock : MemHouse P meter → Stock
-  mem_stock h = record { disks = λ name. areas_in (disk_under name h.disks.items); word = Some h.word; made = h.made }
+  mem_stock h = record { disks = λ name. untold (areas_in (disk_under name h.disks.items)); word = Some h.word; made = h.made }
 
   -- the clocks that it hasn't handed out
   abbrev pub clocks_of : MemHouse P meter → List MemClock

@@ -1,5 +1,5 @@
 -- The steps of opening a store. No public clause cites these.
-use Rattle.std.specs.Prelude.{◌≡◌, ℕ, Bool, List, Option}
+use Rattle.std.specs.Prelude.{◌≡◌, ℕ, List, Option}
 use Rattle.config_groups.specs.Ranges.{AreSettings}
 use Rattle.config_groups.specs.declared.settings.Settings.{Settings}
 use Rattle.store_disk.specs.Meaning.{Meaning}
@@ -7,9 +7,9 @@ use Rattle.gate_store.specs.Store.{IsOpened}
 use Rattle.gate_store.specs.declared.store.Store.{Store}
 use Rattle.gate_store.specs.declared.store_fault.StoreFault.{StoreFault}
 use Rattle.boxes_main.specs.House.{Rooms, Stock, MakesOne, MakesFor, IsToldWord}
-use Rattle.boxes_main.specs.Opening.{IsConfigured, IsHouseDisk, IsNoStore, IsNotOpen}
-use Rattle.boxes_main.specs.declared.failure.Failure.{Failure}
-use Rattle.boxes_main.specs.declared.failure.Failure.TheVariants as failure_is
+use Rattle.boxes_main.specs.Opening.{IsConfigured, IsHouseDisk, IsNoStore, IsNotOpen, anything}
+use Rattle.boxes_main.specs.declared.opening_fault.OpeningFault.{OpeningFault}
+use Rattle.boxes_main.specs.declared.opening_fault.OpeningFault.TheVariants as opening_is
 
 module _ {D : Type 0} (meaning : Meaning D) where
   -- The store of settings was opened on the one disk that was made.
@@ -22,10 +22,10 @@ module _ {D : Type 0} (meaning : Meaning D) where
     pub opened : IsOpened meaning disk settings.rules birth store
 
   -- It wasn't.
-  pub record OpensNone (settings : Settings) (before after : Stock) (failure : Failure) (disk : Option D) : Type 0 where
+  pub record OpensNone (settings : Settings) (before after : Stock) (why : OpeningFault) (disk : Option D) : Type 0 where
     pub made : MakesFor disk before after
     pub fault : StoreFault
-    pub failed : failure ≡ failure_is.Store fault
+    pub failed : why ≡ opening_is.Store fault
     pub cause : IsNoStore meaning (before.disks settings.core.store_file) settings.rules disk fault
 
 module _
@@ -39,7 +39,7 @@ module _
     pub opens : OpensStore meaning settings before after store
 
   -- No store stands open.
-  pub record OpensNothing (failure : Failure) (disk : Option D) : Type 0 where
+  pub record OpensNothing (fault : OpeningFault) (disk : Option D) : Type 0 where
     pub others : new ≡ record old { shelf = new.shelf }
     pub made : MakesFor disk before after
-    pub cause : IsNotOpen files shelf_faults meaning name old.shelf new.shelf before disk failure
+    pub cause : IsNotOpen files shelf_faults meaning anything name old.shelf new.shelf before disk fault

@@ -1,6 +1,6 @@
 -- What a worker leaves, as far as a contract reads it.
 use Rattle.std.specs.Prelude.{◌≡◌, ℕ, List, [], ◌∷◌, Option, None, IfSome, IsSomeAnd}
-use Rattle.kn_base.specs.declared.piece.Past.{Past}
+use Rattle.peer_dialer.specs.declared.closed.Closed.{Closed}
 use Rattle.sendsms_http.specs.declared.http_end.HttpEnd.{HttpEnd}
 use Rattle.boxes_main.specs.declared.command_end.Role.{Role}
 use Rattle.boxes_main.specs.declared.command_end.Role.TheVariants as role_is
@@ -14,7 +14,7 @@ pub record Worker (C L : Type 0) : Type 0 where
   pub clock : Option C
   pub dialer : Option L
   pub ends : List SessionEnd
-  pub pasts : List Past
+  pub pasts : List Closed
 
 -- what is left in a house with these types
 abbrev pub worker_of : {H V D C L S O E P : Type 0} → WorkerEnd H V D C L S O E P → Worker C L

@@ -52,12 +52,13 @@ impl<R: Runtime + Files<File = File> + Net + Copy> House for HostHouse<R> {
 
     ghost use Rattle.std.specs.Prelude.{None, refl};
     ghost use Rattle.store_disk.specs.Disk.{no_areas};
+    ghost use Rattle.store_disk.specs.Story.{untold};
 
     ghost rooms = { λ h. record { visitor = h.visitor; shelf = h.shelf; output = h.output; errors = h.errors } };
 
     ghost with_rooms = { λ h r. record h { visitor = r.visitor; shelf = r.shelf; output = r.output; errors = r.errors } };
 
-    ghost stock = { λ h. record { disks = λ _. no_areas; word = None; made = h.made } };
+    ghost stock = { λ h. record { disks = λ _. untold no_areas; word = None; made = h.made } };
 
     ghost rooms_with = { λ h r. refl };
 

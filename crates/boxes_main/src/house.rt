@@ -62,7 +62,7 @@ pub trait House {
         ensures* lends { sem 𝓛 (Lends Self.row Self.Er.row self.entry result (λ errors. with_rooms self.old (record (rooms self.old) { errors = errors }))) }
         ensures value { result.now ≡ (rooms self.old).errors };
 
-    /// The disk under a name. It has made no call, and nothing of what its areas hold is in doubt.
+    /// The disk under a name. It has made no call; what was done to it before may be in doubt.
     fn disk(&mut self, alloc: Global, name: &[u8]) -> Result<Self::D, Memory>
         ensures rooms { rooms self.new ≡ rooms self.old }
         ensures disk { IfOk result (λ disk. IsNewDisk Self.D.meaning.tells (Self.D.meaning.story disk) (Self.D.meaning.calls disk) (Self.D.meaning.faults disk) ((stock self.old).disks name.now)) }

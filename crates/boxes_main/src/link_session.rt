@@ -1,6 +1,6 @@
 //! One session of a link over an open store: its centre is dialled, and turns are taken until it ends.
 
-ghost use Rattle.std.specs.Prelude.{◌≡◌, ◌<◌, [], ◌∷◌, Some, IfOk, map, vec_len, vec_capacity};
+ghost use Rattle.std.specs.Prelude.{◌≡◌, ◌<◌, [], ◌∷◌, Some, IfOk, map, option_map, vec_len, vec_capacity};
 ghost use Rattle.config_groups.specs.Ranges.{IsLink, IsLogin};
 ghost use Rattle.kn_base.specs.Course.{IsFresh as IsNewCourse};
 ghost use Rattle.link_turn.specs.Session.{IsFresh, IsNew};
@@ -13,14 +13,15 @@ ghost use Rattle.boxes_main.specs.LinkSteps as steps;
 ghost use Rattle.boxes_main.specs.Worker.{worker_of};
 
 use crate::failure::status;
+use crate::link_fault::EndFault;
 use crate::session::{OCTETS_LIMIT, Room, is_unsure};
-use crate::{Ended, Failure, House, Role, SessionEnd, WorkerEnd};
+use crate::{Ended, Failure, House, LinkFault, Role, SessionEnd, SessionFault, WorkerEnd};
 use config_groups::LinkSettings;
 use gate_store::Store;
-use kn_base::{Clock, Items, Memory, Octets, Past, Peer};
+use kn_base::{Clock, Items, Memory, Octets, Peer};
 use link_core::LinkCore;
 use link_turn::{EndCause, Session, Turned, turn_solo};
-use peer_dialer::{Dialed, Dialer};
+use peer_dialer::{Closed, Dialed, Dialer};
 use smpp_link::SmppCore;
 use std::alloc::Global;
 use store_disk::Disk;
@@ -28,44 +29,25 @@ use store_disk::Disk;
 /// Behind so many turns in a row that heard nothing, a session is told to stop.
 const QUIETS_LIMIT: u32 = 1_000;
 
-/// What went wrong in a session of a link.
-#[derive(Clone, Copy)]
-pub enum LinkFault {
-    /// A disk call failed in a commit.
-    Disk,
-    /// The connection failed.
-    Connection,
-    /// As many octets were heard as may be, or as long as may be nothing was, and no end came.
-    Budget,
-    /// As many entries are recorded as ever may be.
-    Full,
-    /// There was no memory.
-    Memory,
-    /// The centre refused the login with this code.
-    LoginRefused { code: u32 },
-    /// The octets behind the last frame are none, at this place.
-    BadFrame { at: u64 },
-    /// What was said with this tag wasn't answered in time.
-    NoReply { tag: u32 },
-}
-
 /// What a session fails by, over a store in which an entry is unsure or none is.
-fn fault_of(is_unsure: bool, cause: EndCause) -> Option<LinkFault>
+fn fault_of(is_unsure: bool, cause: EndCause) -> Option<EndFault>
     ensures { result ≡ link_fault is_unsure cause }
 {
     if is_unsure {
-        return Some(LinkFault::Disk);
+        return Some(EndFault::Session(SessionFault::Disk));
     }
     match cause {
         EndCause::PeerEnd | EndCause::Bye | EndCause::Closed => None,
-        EndCause::PeerFault => Some(LinkFault::Connection),
-        EndCause::LoginRefused { code } => Some(LinkFault::LoginRefused { code }),
-        EndCause::BadFrame { at, .. } => Some(LinkFault::BadFrame { at }),
-        EndCause::NoReply { tag, .. } => Some(LinkFault::NoReply { tag }),
-        EndCause::Disk => Some(LinkFault::Disk),
-        EndCause::Full => Some(LinkFault::Full),
-        EndCause::Memory => Some(LinkFault::Memory),
-        EndCause::Budget { .. } | EndCause::QuietLimit { .. } => Some(LinkFault::Budget),
+        EndCause::PeerFault => Some(EndFault::Session(SessionFault::Connection)),
+        EndCause::LoginRefused { code } => Some(EndFault::LoginRefused { code }),
+        EndCause::BadFrame { at, .. } => Some(EndFault::BadFrame { at }),
+        EndCause::NoReply { tag, .. } => Some(EndFault::NoReply { tag }),
+        EndCause::Disk => Some(EndFault::Session(SessionFault::Disk)),
+        EndCause::Full => Some(EndFault::Full),
+        EndCause::Memory => Some(EndFault::Session(SessionFault::Memory)),
+        EndCause::Budget { .. } | EndCause::QuietLimit { .. } => {
+            Some(EndFault::Session(SessionFault::Budget))
+        }
     }
 }
 
@@ -173,11 +155,11 @@ fn talk<C: LinkCore + Drop, D: Disk, P: Peer, K: Clock>(
     }
 }
 
-/// A session that was held: its end, and what became of its connection, where that is told.
+/// A session that was held: its end, and what became of its connection.
 #[derive(Drop)]
 struct Held {
     cause: EndCause,
-    past: Option<Past>,
+    past: Closed,
 }
 
 /// Holds a session with a peer, and hands the peer back.
@@ -245,17 +227,18 @@ pub(crate) fn new_session(
 }
 
 /// What went wrong in the command: no connection was made, or a session failed.
-fn failure_of(is_unsure: bool, held: &Option<Held>) -> Option<Failure>
-    ensures { result ≡ steps.failure_by is_unsure held.now }
+fn failure_of(is_unsure: bool, held: &Option<Held>) -> Option<Failure<LinkFault>>
+    ensures { result ≡ option_map Failure.Own (steps.failure_by is_unsure held.now) }
 {
-    match held {
-        Some(held) => fault_of(is_unsure, held.cause).map(Failure::Link),
-        None => Some(Failure::Undialled),
-    }
+    let fault = match held {
+        Some(held) => fault_of(is_unsure, held.cause).map(LinkFault::Session),
+        None => Some(LinkFault::Undialled),
+    };
+    fault.map(Failure::Own)
 }
 
 /// Puts what was held last.
-fn put_held(ends: &mut Vec<SessionEnd>, pasts: &mut Vec<Past>, held: Option<Held>)
+fn put_held(ends: &mut Vec<SessionEnd>, pasts: &mut Vec<Closed>, held: Option<Held>)
     requires no_ends { ends.old.items ≡ [] }
     requires room_for_end { vec_len ends.old < vec_capacity ends.old }
     requires no_pasts { pasts.old.items ≡ [] }
@@ -267,9 +250,7 @@ fn put_held(ends: &mut Vec<SessionEnd>, pasts: &mut Vec<Past>, held: Option<Held
         return;
     };
     ends.push_reserved(SessionEnd::Link(cause));
-    if let Some(past) = past {
-        pasts.push_reserved(past);
-    }
+    pasts.push_reserved(past);
 }
 
 /// What one worker left: its clock and its dialer, and its session, where it held one.
@@ -308,7 +289,7 @@ pub(crate) fn serve_link<H: House>(
     session: Session<SmppCore>,
     store: Store<H::D>,
     room: Room<H>,
-) -> Ended<H>
+) -> Ended<H, LinkFault>
     requires may { steps.MayBegin H.D.meaning session store }
     requires new_one { steps.IsNewSession link centre.now session }
     requires room { HasRoom room.ends room.pasts room.workers }

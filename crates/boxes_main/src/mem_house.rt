@@ -7,15 +7,15 @@ ghost use Rattle.store_disk.specs.MemDisk.{mem_calls, mem_faults, mem_story};
 ghost use Rattle.store_disk.specs.Story.{untold};
 
 use crate::House;
-use kn_base::{MemClock, MemPeer, MemShelf, Memory, Octets, Peer, raised};
-use peer_dialer::MemDialer;
+use kn_base::{MemClock, MemPeer, MemShelf, Memory, Octets, raised};
+use peer_dialer::{Counted, MemDialer};
 use std::alloc::Global;
 use store_disk::MemDisk;
 
 /// A house that hands out what its lists hold, as new: clocks and dialers in their order, and disks by their names, of two under
 /// one name the first. Where a list is used up it hands out one without contents.
 #[derive(Drop)]
-pub struct MemHouse<P: Peer + Drop> {
+pub struct MemHouse<P: Counted + Drop> {
     alloc: Global,
     visitor: MemPeer,
     shelf: MemShelf,
@@ -28,7 +28,7 @@ pub struct MemHouse<P: Peer + Drop> {
     made: u64,
 }
 
-impl<P: Peer + Drop> MemHouse<P> {
+impl<P: Counted + Drop> MemHouse<P> {
     ghost use Rattle.boxes_main.specs.MemHouse.{mem_rooms, mem_stock, clocks_of, dialers_of, disks_of};
 
     /// A house that handed out nothing yet. It takes no memory.
@@ -44,7 +44,7 @@ impl<P: Peer + Drop> MemHouse<P> {
         disks: Vec<(Octets, MemDisk)>,
     ) -> MemHouse<P>
         ensures rooms { mem_rooms result ≡ record { visitor = visitor; shelf = shelf; output = output; errors = errors } }
-        ensures stock { mem_stock result ≡ record { disks = λ name. areas_in (disk_under name disks.items); word = Some word; made = 0 } }
+        ensures stock { mem_stock result ≡ record { disks = λ name. untold (areas_in (disk_under name disks.items)); word = Some word; made = 0 } }
         ensures clocks { clocks_of result ≡ clocks.items }
         ensures dialers { dialers_of result ≡ dialers.items }
         ensures disks { disks_of result ≡ disks.items }
@@ -103,7 +103,7 @@ fn new_disk(alloc: Global, disk: Option<MemDisk>) -> MemDisk
     }
 }
 
-impl<P: Peer + Drop> House for MemHouse<P> {
+impl<P: Counted + Drop> House for MemHouse<P> {
     type V = MemPeer;
 
     type D = MemDisk;

@@ -2,10 +2,10 @@
 
 ghost use Rattle.std.specs.Prelude.{◌≡◌, ◌≢◌, [], Some, None, Ok, Err, IfOk, IfErr};
 ghost use Rattle.config_groups.specs.Ranges.{AreSettings};
-ghost use Rattle.boxes_main.specs.Opening.{Reads, IsConfigured, IsNotOpen};
+ghost use Rattle.boxes_main.specs.Opening.{Reads, IsConfigured, IsNotOpen, anything};
 ghost use Rattle.boxes_main.specs.OpeningSteps.{OpensStore, OpensNone, Opens, OpensNothing};
 
-use crate::{Failure, House};
+use crate::{House, OpeningFault};
 use config_groups::{ConfigFault, Settings, read_config};
 use gate_store::{Store, StoreFault};
 use route_rules::copy_rules;
@@ -19,7 +19,7 @@ pub(crate) struct Opened<H: House> {
 
 /// Why no store stands open, and the disk, where one was made.
 pub(crate) struct Unopened<H: House> {
-    pub(crate) failure: Failure,
+    pub(crate) fault: OpeningFault,
     pub(crate) disk: Option<H::D>,
 }
 
@@ -38,28 +38,28 @@ pub(crate) fn read_settings<H: House>(
 }
 
 /// The same, where they name a store.
-fn configured<H: House>(alloc: Global, house: &mut H, name: &[u8]) -> Result<Settings, Failure>
+fn configured<H: House>(alloc: Global, house: &mut H, name: &[u8]) -> Result<Settings, OpeningFault>
     ensures rooms { H.rooms house.new ≡ record (H.rooms house.old) { shelf = (H.rooms house.new).shelf } }
     ensures stock { H.stock house.new ≡ H.stock house.old }
     ensures settings { IfOk result (IsConfigured H.S.files H.S.faults (Some name.now) (H.rooms house.old).shelf (H.rooms house.new).shelf) }
     ensures ranges { IfOk result AreSettings }
-    ensures refused { IfErr result (IsNotOpen H.S.files H.S.faults H.D.meaning
+    ensures refused { IfErr result (IsNotOpen H.S.files H.S.faults H.D.meaning anything
         (Some name.now) (H.rooms house.old).shelf (H.rooms house.new).shelf (H.stock house.old) None) }
 {
     match read_settings(alloc, house, name) {
-        Ok(settings) if settings.core.store_file.is_empty() => Err(Failure::NoStoreFile),
+        Ok(settings) if settings.core.store_file.is_empty() => Err(OpeningFault::NoStoreFile),
         Ok(settings) => Ok(settings),
-        Err(fault) => Err(Failure::Configuration(fault)),
+        Err(fault) => Err(OpeningFault::Configuration(fault)),
     }
 }
 
 /// There was no memory for the store, and no disk was made.
 fn without_memory<H: House>() -> Unopened<H>
-    ensures failure { result.failure ≡ Failure.Store StoreFault.Memory }
+    ensures fault { result.fault ≡ OpeningFault.Store StoreFault.Memory }
     ensures disk { result.disk ≡ None }
 {
     Unopened {
-        failure: Failure::Store(StoreFault::Memory),
+        fault: OpeningFault::Store(StoreFault::Memory),
         disk: None,
     }
 }
@@ -73,7 +73,7 @@ pub(crate) fn open_store<H: House>(
     requires in_range { AreSettings settings.now }
     ensures rooms { H.rooms house.new ≡ H.rooms house.old }
     ensures ok { IfOk result (OpensStore H.D.meaning settings.now (H.stock house.old) (H.stock house.new)) }
-    ensures err { IfErr result (λ unopened. OpensNone H.D.meaning settings.now (H.stock house.old) (H.stock house.new) unopened.failure unopened.disk) }
+    ensures err { IfErr result (λ unopened. OpensNone H.D.meaning settings.now (H.stock house.old) (H.stock house.new) unopened.fault unopened.disk) }
 {
     let Ok(rules) = copy_rules(alloc, &settings.rules) else {
         return Err(without_memory());
@@ -84,7 +84,7 @@ pub(crate) fn open_store<H: House>(
     match Store::open(alloc, disk, rules, house.word()) {
         Ok(store) => Ok(store),
         Err((disk, fault)) => Err(Unopened {
-            failure: Failure::Store(fault),
+            fault: OpeningFault::Store(fault),
             disk: Some(disk),
         }),
     }
@@ -99,16 +99,13 @@ pub(crate) fn open<H: House>(
     ensures ok { IfOk result (λ opened. Opens H.S.files H.S.faults H.D.meaning
         (Some name.now) (H.rooms house.old) (H.rooms house.new) (H.stock house.old) (H.stock house.new) opened.settings opened.store) }
     ensures err { IfErr result (λ unopened. OpensNothing H.S.files H.S.faults H.D.meaning
-        (Some name.now) (H.rooms house.old) (H.rooms house.new) (H.stock house.old) (H.stock house.new) unopened.failure unopened.disk) }
+        (Some name.now) (H.rooms house.old) (H.rooms house.new) (H.stock house.old) (H.stock house.new) unopened.fault unopened.disk) }
 {
     match configured(alloc, house, name) {
         Ok(settings) => {
             let store = open_store(alloc, house, &settings)?;
             Ok(Opened { settings, store })
         }
-        Err(failure) => Err(Unopened {
-            failure,
-            disk: None,
-        }),
+        Err(fault) => Err(Unopened { fault, disk: None }),
     }
 }

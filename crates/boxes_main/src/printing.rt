@@ -2,8 +2,11 @@
 
 ghost use Rattle.std.specs.Prelude.{◌≡◌, ◌≤◌, ◌+◌, ◌++◌, length};
 ghost use Rattle.arrayvec.specs.ArrayVec.{array_vec_len};
+ghost use Rattle.boxes_main.specs.Line.{text_in};
 ghost use Rattle.boxes_main.specs.Show as spec;
 
+use crate::failure::Fault;
+use crate::line::{CONNECTION_FAULT, Line, OUT_OF_MEMORY};
 use arrayvec::ArrayVec;
 use gate_model::Totals;
 use itoa::Buffer;
@@ -22,6 +25,17 @@ pub enum OutputFault {
     Failed,
     /// It found no memory: its count of that rose.
     Memory,
+}
+
+impl Fault for OutputFault {
+    ghost says = { spec.output_row };
+
+    fn row(&self) -> (u8, Line) {
+        match self {
+            OutputFault::Failed => (6, Line::Text(CONNECTION_FAULT)),
+            OutputFault::Memory => (9, Line::Text(OUT_OF_MEMORY)),
+        }
+    }
 }
 
 /// Prints what a store counts, without taking memory.

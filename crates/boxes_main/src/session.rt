@@ -9,28 +9,16 @@ ghost use Rattle.boxes_main.specs.Worker.{worker_of};
 
 use crate::failure::status;
 use crate::opening::Opened;
-use crate::{Ended, Failure, House, Role, SessionEnd, WorkerEnd};
+use crate::{Ended, Failure, House, Role, SessionEnd, SessionFault, WorkerEnd};
 use gate_store::Store;
-use kn_base::{Items, Memory, Past};
+use kn_base::{Items, Memory};
+use peer_dialer::Closed;
 use sendsms_http::{HttpEnd, serve_http};
 use std::alloc::Global;
 use store_disk::Disk;
 
 /// How many octets of one connection are taken.
 pub(crate) const OCTETS_LIMIT: u64 = 1_048_576;
-
-/// What went wrong in a session.
-#[derive(Clone, Copy)]
-pub enum SessionFault {
-    /// A disk call failed in a commit, and when the store was closed the entry was unsure.
-    Disk,
-    /// Standard input or output failed, or was quiet.
-    Connection,
-    /// As many octets were taken as may be, and no end came.
-    Budget,
-    /// There was no memory for hearing or saying, outside a request that was answered so.
-    Memory,
-}
 
 /// What a session fails by, over a store in which an entry is unsure or none is.
 fn fault_of(is_unsure: bool, end: HttpEnd) -> Option<SessionFault>
@@ -48,17 +36,17 @@ fn fault_of(is_unsure: bool, end: HttpEnd) -> Option<SessionFault>
 }
 
 /// The same as what went wrong in the command.
-fn failure_of(is_unsure: bool, end: HttpEnd) -> Option<Failure>
-    ensures { result ≡ option_map Failure.Session (fault_by is_unsure end) }
+fn failure_of(is_unsure: bool, end: HttpEnd) -> Option<Failure<SessionFault>>
+    ensures { result ≡ option_map Failure.Own (fault_by is_unsure end) }
 {
-    fault_of(is_unsure, end).map(Failure::Session)
+    fault_of(is_unsure, end).map(Failure::Own)
 }
 
 /// Room for what a session leaves, taken before anything is done.
 #[derive(Drop)]
 pub(crate) struct Room<H: House> {
     pub(crate) ends: Vec<SessionEnd>,
-    pub(crate) pasts: Vec<Past>,
+    pub(crate) pasts: Vec<Closed>,
     pub(crate) workers: Vec<WorkerEnd<H>>,
 }
 
@@ -107,7 +95,7 @@ pub(crate) fn serve<H: House>(
     house: &mut H,
     opened: Opened<H>,
     room: Room<H>,
-) -> Ended<H>
+) -> Ended<H, SessionFault>
     requires open { IsOpen H.D.meaning opened.store }
     requires in_range { AreSettings opened.settings }
     requires room { HasRoom room.ends room.pasts room.workers }

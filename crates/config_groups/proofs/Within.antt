@@ -7,15 +7,16 @@ use Rattle.route_rules.specs.declared.link_kind.LinkKind.{LinkKind}
 use Rattle.route_rules.specs.declared.link_kind.LinkKind.TheVariants as protocols
 use Rattle.config_values.specs.declared.grammar.Grammar.TheVariants as grammars
 use Rattle.sms_record.specs.Record.{IsDigit}
-use Rattle.config_values.specs.Forms.{IsWithin, IsPrintable, IsDigits, IsWord, IsPath, IsText}
+use Rattle.config_values.specs.Forms.{IsWithin, AreEntries, IsPrintable, IsDigits, IsWord, IsPath, IsText}
 use Rattle.config_values.proofs.Forms as forms
 use Rattle.config_groups.specs.declared.group.Set.{Set}
 use Rattle.config_groups.specs.declared.role.Kind.TheVariants as kinds
 use Rattle.config_groups.specs.declared.role.Role.{Role}
 use Rattle.config_groups.specs.declared.role.Role.TheVariants.{Taken}
+use Rattle.config_groups.specs.declared.table.Range.{Range}
 use Rattle.config_groups.specs.declared.table.Range.TheVariants.{Of, Text}
 use Rattle.config_groups.specs.Table.{rows, Always, is_in}
-use Rattle.config_groups.specs.Fields.{value, octets, optional}
+use Rattle.config_groups.specs.Fields.{value, octets, optional, small, list}
 use Rattle.config_groups.specs.Faults.{range_of, group_fault}
 use Rattle.config_groups.specs.Missing.{lacking}
 use Rattle.config_groups.specs.Settings.{core_of, outgoing_of, incoming_of, window_of, keepalive_of, link_of, rule_of, replies_of, smsbox_of, texts_of, ways_of, identity_of, user_of, names_of, answers_of, service_of}
@@ -80,70 +81,26 @@ module _ (group : List Set) (right : group_fault smsbox group ≡ None) where
 abbrev link : LinkKind → Role
 link kind = Taken (kinds.Link (Some kind))
 
--- the rows of a link, but for its username and its password
-record HasRows (role : Role) : Type 0 where
-  smsc_id : range_of role (codes "smsc-id") ≡ Some (Of (grammars.Octets 0 64))
-  host : range_of role (codes "host") ≡ Some (Of (grammars.Octets 1 255))
-  port : range_of role (codes "port") ≡ Some (Of (grammars.Number 1 65535))
-  system_type : range_of role (codes "system-type") ≡ Some (Of (grammars.Octets 0 12))
-  denied_ids : range_of role (codes "denied-smsc-id") ≡ Some (Of grammars.List)
-  allowed_ids : range_of role (codes "allowed-smsc-id") ≡ Some (Of grammars.List)
-  preferred_ids : range_of role (codes "preferred-smsc-id") ≡ Some (Of grammars.List)
-  denied_prefixes : range_of role (codes "denied-prefix") ≡ Some (Of grammars.List)
-  allowed_prefixes : range_of role (codes "allowed-prefix") ≡ Some (Of grammars.List)
-  preferred_prefixes : range_of role (codes "preferred-prefix") ≡ Some (Of grammars.List)
-  max_pending_submits : range_of role (codes "max-pending-submits") ≡ Some (Of (grammars.Number 1 50))
-  window : range_of role (codes "window") ≡ Some (Of (grammars.Number 1 50))
-  wait_ack : range_of role (codes "wait-ack") ≡ Some (Of (grammars.Number 1 3600))
-  keepalive : range_of role (codes "keepalive") ≡ Some (Of (grammars.Number 0 3600))
-  enquire_link_interval : range_of role (codes "enquire-link-interval") ≡ Some (Of (grammars.Number 0 3600))
-  reconnect_delay : range_of role (codes "reconnect-delay") ≡ Some (Of (grammars.Number 1 3600))
-  needs_host : need_of role (codes "host") ≡ Always
-  needs_port : need_of role (codes "port") ≡ Always
+-- what holds of links of each protocol
+each_link : (P : LinkKind → Type 0) → P protocols.Smpp → P protocols.Ucp → P protocols.Cimd2 → (kind : LinkKind) → P kind
+each_link P smpp ucp cimd2 protocols.Smpp = smpp
+each_link P smpp ucp cimd2 protocols.Ucp = ucp
+each_link P smpp ucp cimd2 protocols.Cimd2 = cimd2
 
--- links of each protocol have them
-has_rows : (kind : LinkKind) → HasRows (link kind)
-unfolding range_of need_of rows
-has_rows protocols.Smpp = record {
-  smsc_id = refl;
-  host = refl;
-  port = refl;
-  system_type = refl;
-  denied_ids = refl;
-  allowed_ids = refl;
-  preferred_ids = refl;
-  denied_prefixes = refl;
-  allowed_prefixes = refl;
-  preferred_prefixes = refl;
-  max_pending_submits = refl;
-  window = refl;
-  wait_ack = refl;
-  keepalive = refl;
-  enquire_link_interval = refl;
-  reconnect_delay = refl;
-  needs_host = refl;
-  needs_port = refl;
-}
-has_rows other = record {
-  smsc_id = refl;
-  host = refl;
-  port = refl;
-  system_type = refl;
-  denied_ids = refl;
-  allowed_ids = refl;
-  preferred_ids = refl;
-  denied_prefixes = refl;
-  allowed_prefixes = refl;
-  preferred_prefixes = refl;
-  max_pending_submits = refl;
-  window = refl;
-  wait_ack = refl;
-  keepalive = refl;
-  enquire_link_interval = refl;
-  reconnect_delay = refl;
-  needs_host = refl;
-  needs_port = refl;
-}
+-- a variable has the same row in links of each protocol
+abbrev IsRow : (name : List ℕ) → Range → Type 0
+IsRow name range =
+    (range_of (link protocols.Smpp) name ≡ Some range) × (range_of (link protocols.Ucp) name ≡ Some range) × (range_of (link protocols.Cimd2) name ≡ Some range)
+
+row_of : (kind : LinkKind) (name : List ℕ) (range : Range) → IsRow name range → range_of (link kind) name ≡ Some range
+row_of kind name range row = each_link (λ k. range_of (link k) name ≡ Some range) row.0 row.1 row.2 kind
+
+-- a variable has to stand in links of each protocol
+abbrev HasToStand : (name : List ℕ) → Type 0
+HasToStand name = (need_of (link protocols.Smpp) name ≡ Always) × (need_of (link protocols.Ucp) name ≡ Always) × (need_of (link protocols.Cimd2) name ≡ Always)
+
+stands_in : (kind : LinkKind) (name : List ℕ) → HasToStand name → need_of (link kind) name ≡ Always
+stands_in kind name stands = each_link (λ k. need_of (link k) name ≡ Always) stands.0 stands.1 stands.2 kind
 
 login_within : (kind : LinkKind) (group : List Set) → group_fault (link kind) group ≡ None → lacking (link kind) group ≡ None →
     IsLogin kind (octets (codes "smsc-username") group) (octets (codes "smsc-password") group)
@@ -173,46 +130,53 @@ login_printable protocols.Ucp username password is = (digits_printable username 
 login_printable protocols.Cimd2 username password is = is
 
 module _ (kind : LinkKind) (group : List Set) (right : group_fault (link kind) group ≡ None) (whole : lacking (link kind) group ≡ None) where
-  up_to : (name : List ℕ) (most : ℕ) → range_of (link kind) name ≡ Some (Of (grammars.Octets 0 most)) → length (octets name group) ≤ most
-  up_to name most row = (octets_or (link kind) group right name [] 0 most row (omega arith, omega arith)).1
+  up_to : (name : List ℕ) (most : ℕ) → IsRow name (Of (grammars.Octets 0 most)) → length (octets name group) ≤ most
+  up_to name most row = (octets_or (link kind) group right name [] 0 most (row_of kind name _ row) (omega arith, omega arith)).1
+
+  entries_of : (name : List ℕ) → IsRow name (Of grammars.List) → AreEntries (list name group)
+  entries_of name row = list_of (link kind) group right name (row_of kind name _ row)
+
+  number_in : (name : List ℕ) (unset least most : ℕ) → IsRow name (Of (grammars.Number least most)) → IsWithin least most unset → most ≤ 4294967295
+      → IsWithin least most (small name unset group)
+  number_in name unset least most row default low = small_or (link kind) group right name unset least most (row_of kind name _ row) default low
 
   pub rule_within : IsLinkRule (rule_of kind group)
-  unfolding rule_of
-  rule_within = let rows = has_rows kind in record {
-    id = up_to (codes "smsc-id") 64 rows.smsc_id;
-    denied_ids = list_of (link kind) group right (codes "denied-smsc-id") rows.denied_ids;
-    allowed_ids = list_of (link kind) group right (codes "allowed-smsc-id") rows.allowed_ids;
-    preferred_ids = list_of (link kind) group right (codes "preferred-smsc-id") rows.preferred_ids;
-    denied_prefixes = list_of (link kind) group right (codes "denied-prefix") rows.denied_prefixes;
-    allowed_prefixes = list_of (link kind) group right (codes "allowed-prefix") rows.allowed_prefixes;
-    preferred_prefixes = list_of (link kind) group right (codes "preferred-prefix") rows.preferred_prefixes;
+  unfolding rule_of range_of need_of rows
+  rule_within = record {
+    id = up_to (codes "smsc-id") 64 (refl, refl, refl);
+    denied_ids = entries_of (codes "denied-smsc-id") (refl, refl, refl);
+    allowed_ids = entries_of (codes "allowed-smsc-id") (refl, refl, refl);
+    preferred_ids = entries_of (codes "preferred-smsc-id") (refl, refl, refl);
+    denied_prefixes = entries_of (codes "denied-prefix") (refl, refl, refl);
+    allowed_prefixes = entries_of (codes "allowed-prefix") (refl, refl, refl);
+    preferred_prefixes = entries_of (codes "preferred-prefix") (refl, refl, refl);
   }
 
   window_within : IsWithin 1 50 (window_of group)
-  unfolding window_of
-  window_within = let rows = has_rows kind in
-      small_or (link kind) group right (codes "max-pending-submits") _ 1 50 rows.max_pending_submits
-      (small_or (link kind) group right (codes "window") 10 1 50 rows.window (omega arith, omega arith) (omega arith)) (omega arith)
+  unfolding window_of range_of need_of rows
+  window_within =
+      number_in (codes "max-pending-submits") _ 1 50 (refl, refl, refl)
+      (number_in (codes "window") 10 1 50 (refl, refl, refl) (omega arith, omega arith) (omega arith)) (omega arith)
 
   keepalive_within : IsWithin 0 3600 (keepalive_of group)
-  unfolding keepalive_of
-  keepalive_within = let rows = has_rows kind in
-      small_or (link kind) group right (codes "keepalive") _ 0 3600 rows.keepalive
-      (small_or (link kind) group right (codes "enquire-link-interval") 30 0 3600 rows.enquire_link_interval (omega arith, omega arith) (omega arith)) (omega arith)
+  unfolding keepalive_of range_of need_of rows
+  keepalive_within =
+      number_in (codes "keepalive") _ 0 3600 (refl, refl, refl)
+      (number_in (codes "enquire-link-interval") 30 0 3600 (refl, refl, refl) (omega arith, omega arith) (omega arith)) (omega arith)
 
   pub link_within : IsLink (link_of group)
-  unfolding link_of
-  link_within = let rows = has_rows kind in let login = login_printable kind _ _ (login_within kind group right whole) in record {
-    smsc_id = up_to (codes "smsc-id") 64 rows.smsc_id;
-    host = octets_always (link kind) group right whole (codes "host") 1 255 rows.host rows.needs_host;
-    port = port_always (link kind) group right whole (codes "port") rows.port rows.needs_port;
+  unfolding link_of range_of need_of rows
+  link_within = let login = login_printable kind _ _ (login_within kind group right whole) in record {
+    smsc_id = up_to (codes "smsc-id") 64 (refl, refl, refl);
+    host = octets_always (link kind) group right whole (codes "host") 1 255 (row_of kind (codes "host") _ (refl, refl, refl)) (stands_in kind (codes "host") (refl, refl, refl));
+    port = port_always (link kind) group right whole (codes "port") (row_of kind (codes "port") _ (refl, refl, refl)) (stands_in kind (codes "port") (refl, refl, refl));
     smsc_username = login.0;
     smsc_password = login.1;
-    system_type = up_to (codes "system-type") 12 rows.system_type;
+    system_type = up_to (codes "system-type") 12 (refl, refl, refl);
     max_pending_submits = window_within;
-    wait_ack = small_or (link kind) group right (codes "wait-ack") 60 1 3600 rows.wait_ack (omega arith, omega arith) (omega arith);
+    wait_ack = number_in (codes "wait-ack") 60 1 3600 (refl, refl, refl) (omega arith, omega arith) (omega arith);
     keepalive = keepalive_within.1;
-    reconnect_delay = small_or (link kind) group right (codes "reconnect-delay") 10 1 3600 rows.reconnect_delay (omega arith, omega arith) (omega arith);
+    reconnect_delay = number_in (codes "reconnect-delay") 10 1 3600 (refl, refl, refl) (omega arith, omega arith) (omega arith);
   }
 
   pub pair_within : IsPair (rule_of kind group) (link_of group)

@@ -1,6 +1,7 @@
 -- A configuration: the settings of its lines, or the first fault in the order of reading.
 use Rattle.std.specs.Prelude.{◌≡◌, ℕ, List, Option, Some, None, IfSome, Result, Ok, Err}
 use Rattle.kn_base.specs.Count.{Rose}
+use Rattle.kn_base.specs.Shelf.{AsksFor}
 use Rattle.config_lines.specs.Files.{lines_of}
 use Rattle.config_lines.specs.declared.read.LinesFault.{LinesFault}
 use Rattle.config_lines.specs.declared.read.LinesFault.TheVariants as lines
@@ -65,3 +66,31 @@ IsConfig files name before after (Ok settings) = config_at files None name ≡ O
 IsConfig files name before after (Err faults.Memory) = Unit {0}
 IsConfig files name before after (Err fault) =
     (missing : Option ℕ) × (config_at files missing name ≡ Err fault) × IfSome missing (λ number. Rose before after)
+
+-- ---- the calls of the shelf
+
+-- the names of a configuration's files in the order of reading, each once for each place that includes it, where that of one number can't be had
+abbrev pub names_of : List (List ℕ × List ℕ) → (missing : Option ℕ) → List ℕ → List (List ℕ)
+names_of files missing name = (lines_of files missing name).names
+
+-- a fault of the shelf is counted exactly where a file could not be had
+abbrev pub CountsMissing : (missing : Option ℕ) → (before after : ℕ) → Type 0
+CountsMissing None before after = after ≡ before
+CountsMissing (Some number) before after = Rose before after
+
+-- The shelf was asked for the configuration's files in the order of reading and for no other, up to the first fault of its lines, and a file
+-- that it couldn't give is the missing one. Want of memory may come before any call.
+abbrev pub AsksFiles :
+    List (List ℕ × List ℕ) → List ℕ → (before after : ℕ) → (asked asked_now : Option (List (List ℕ))) → Result Settings ConfigFault → Type 0
+AsksFiles files name before after asked asked_now (Ok settings) = (after ≡ before) × AsksFor (names_of files None name) asked asked_now
+AsksFiles files name before after asked asked_now (Err faults.Memory) = Unit {0}
+AsksFiles files name before after asked asked_now (Err fault) =
+    (missing : Option ℕ) × (config_at files missing name ≡ Err fault) × CountsMissing missing before after
+    × AsksFor (names_of files missing name) asked asked_now
+
+-- the same of a shelf, where it tells its files
+abbrev pub AsksInTurn :
+    {H : Type 0} → (files_of : H → Option (List (List ℕ × List ℕ))) → (asked_of : H → Option (List (List ℕ))) → (faults_of : H → ℕ)
+    → (shelf shelf_now : H) → List ℕ → Result Settings ConfigFault → Type 0
+AsksInTurn files_of asked_of faults_of shelf shelf_now name result =
+    IfSome (files_of shelf) (λ files. AsksFiles files name (faults_of shelf) (faults_of shelf_now) (asked_of shelf) (asked_of shelf_now) result)

@@ -115,13 +115,16 @@ fn config_of(alloc: Global, read: Read) -> Result<Settings, ConfigFault>
 /// Reads the configuration whose first file has that name (docs/FORMATS.md, 'Configuration').
 ///
 /// Settings lie within the ranges of the table there (`specs/Ranges.antt`). Each fault is the first in the order of reading. `NoFile` only
-/// where the shelf's count of faults rose. `Memory`.
+/// where the shelf's count of faults rose; with settings it stands still. The shelf is asked for each file once for each place that includes
+/// it, in the order of reading, and for no other. `Memory`.
 pub fn read_config<S: Shelf>(
     alloc: Global,
     shelf: &mut S,
     name: &[u8],
 ) -> Result<Settings, ConfigFault>
     ensures read { IfSome (S.files shelf.old) (λ all. spec.IsConfig all name.now (S.faults shelf.old) (S.faults shelf.new) result) }
+    ensures asked { spec.AsksInTurn S.files S.asked S.faults shelf.old shelf.new name.now result }
+    ensures spared { IfOk result (λ _. S.faults shelf.new ≡ S.faults shelf.old) }
     ensures ranges { IfOk result AreSettings }
     ensures kept { S.files shelf.new ≡ S.files shelf.old }
     ensures missed { IsErrOf result ConfigFault.NoFile → Rose (S.faults shelf.old) (S.faults shelf.new) }

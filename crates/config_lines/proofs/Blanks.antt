@@ -1,7 +1,7 @@
 -- Blanks at the end of octets.
-use Rattle.std.proofs.Common.{◌≡◌, ◌∙◌, refl, sym, ap, suc, List, [], ◌∷◌, ◌++◌, ℕ, ◌-◌, ◌+◌, ◌<◌, length, take, drop, arith, Bool, true, false, slice_index}
+use Rattle.std.proofs.Common.{◌≡◌, ◌∙◌, refl, sym, ap, suc, List, [], ◌∷◌, ◌++◌, ℕ, ◌-◌, ◌<◌, length, take, drop, arith, true, false, slice_index}
 use Rattle.std.proofs.Math.Seq.{split_at, drop-length}
-use Rattle.config_lines.specs.Line.{is_blank, blank_or_cons, before_blanks}
+use Rattle.config_lines.specs.Line.{is_blank, before_blanks}
 
 -- octets end with the last of them
 pub ends_with : (octets : List ℕ) → 0 < length octets → octets ≡ take (length octets - 1) octets ++ slice_index octets (length octets - 1) ∷ []

@@ -1,8 +1,10 @@
 -- Reading files: what was read earlier agrees with the same missing file as what is read later, and each step of reading.
-use Rattle.std.proofs.Common.{◌≡◌, ◌∙◌, refl, sym, ap, subst, ℕ, zero, suc, ◌+◌, ◌-◌, ◌≤◌, arith, List, [], ◌∷◌, length, Option, Some, None, IfSome}
+use Rattle.std.proofs.Common.{◌≡◌, ◌∙◌, refl, sym, ap, subst, ℕ, zero, suc, ◌+◌, ◌-◌, ◌≤◌, arith, List, [], ◌∷◌, ◌++◌, append_assoc, length, Option, Some, None, IfSome}
+use Rattle.std.proofs.lemmas.List.{append-nil}
 use Rattle.std.specs.Str.Lines.{lines}
+use Rattle.kn_base.specs.Shelf.{AsksFor}
 use Rattle.config_lines.specs.Files.{ended, going_on, lines_into, include_at, files_into, lines_of, missing_by, most_levels, none_read, texts_but}
-use Rattle.config_lines.specs.FilesSteps.{IsBehind, AgreesBy, Agrees, PutsLine, ReadsFile, ReadsIncluded, ReadsLine, ReadsText}
+use Rattle.config_lines.specs.FilesSteps.{IsBehind, AgreesBy, Agrees, PutsLine, ReadsFile, ReadsIncluded, ReadsLine, ReadsText, TellsOf}
 use Rattle.config_lines.specs.declared.read.Read.{Read}
 use Rattle.config_lines.specs.declared.read.LinesFault.{LinesFault}
 use Rattle.config_lines.specs.declared.read.LinesFault.TheVariants as faults
@@ -114,3 +116,15 @@ agrees_by_missing (Some faults.TooDeep) files = tt
 pub read_from_none : (files : Option (List (List ℕ × List ℕ))) (name : List ℕ) (read : Read) → IfSome files (λ all. ReadsFile all most_levels name none_read read) →
     IfSome files (λ all. read ≡ lines_of all (missing_by read.fault read.files) name)
 read_from_none files name read reads = IfSome-weaker files _ _ (λ all of_file. of_file (missing_by read.fault read.files) (agrees_by_missing read.fault read.files)) reads
+
+-- one more name was asked for
+pub one_name : (asked asked_now : Option (List (List ℕ))) (old : Read) (names : List (List ℕ)) (name : List ℕ) → names ≡ old.names ++ name ∷ []
+    → AsksFor (name ∷ []) asked asked_now → (before : List (List ℕ)) → TellsOf old before asked → IfSome asked_now (λ all. all ≡ before ++ names)
+one_name asked asked_now old names name more asks before tells =
+    IfSome-weaker asked_now _ _ (λ all is. is ∙ (append_assoc before old.names (name ∷ []) ∙ ap (λ ns. before ++ ns) (sym more))) (asks (before ++ old.names) tells)
+
+-- behind no names the names that were asked for are those that were read
+pub asked_from_none : (asked asked_now : Option (List (List ℕ))) (read : Read) → ((before : List (List ℕ)) → TellsOf none_read before asked → TellsOf read before asked_now)
+    → AsksFor read.names asked asked_now
+asked_from_none asked asked_now read asks before told =
+    asks before (IfSome-weaker asked _ _ (λ all is. is ∙ sym (append-nil before)) told)

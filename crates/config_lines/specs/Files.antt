@@ -1,5 +1,5 @@
 -- The lines of a configuration in the order of reading: those of its file, with those of each included file in the include's place.
-use Rattle.std.specs.Prelude.{◌≡◌, ◌≤◌, ◌+◌, ℕ, zero, suc, Bool, false, ◌==◌, nat_lt, List, [], ◌∷◌, ◌++◌, Option, Some, None, if◌then◌else◌, codes}
+use Rattle.std.specs.Prelude.{◌+◌, ℕ, zero, suc, Bool, false, ◌==◌, nat_lt, List, [], ◌∷◌, ◌++◌, Option, Some, None, if◌then◌else◌, codes}
 use Rattle.std.specs.Str.{bytes_eq}
 use Rattle.std.specs.Str.Lines.{lines}
 use Rattle.kn_base.specs.Shelf.{text_of}
@@ -21,7 +21,7 @@ most_levels = 8
 
 -- nothing was read
 abbrev pub none_read : Read
-none_read = record { lines = []; files = 0; fault = None }
+none_read = record { lines = []; names = []; files = 0; fault = None }
 
 -- the reading ends
 abbrev pub ended : LinesFault → Read → Read
@@ -60,10 +60,14 @@ abbrev pub text_into : (List ℕ → Read → Read) → Option (List ℕ) → Re
 text_into include None read = ended faults.NoFile read
 text_into include (Some text) read = lines_into include read.files 1 (lines text) (record read { files = read.files + 1 })
 
+-- a file is asked for
+abbrev pub asking : List ℕ → Read → Read
+asking name read = record read { names = read.names ++ name ∷ [] }
+
 -- a file is read, unless too many were
 abbrev pub file_into : (ℕ → List ℕ → Option (List ℕ)) → (List ℕ → Read → Read) → List ℕ → Read → Read
 file_into texts include name read =
-    if nat_lt read.files most_files then text_into include (texts read.files name) read else ended faults.TooDeep read
+    if nat_lt read.files most_files then text_into include (texts read.files name) (asking name read) else ended faults.TooDeep read
 
 -- what an include stands for, where it is followed at so many levels
 unfoldable pub include_at : (ℕ → List ℕ → Option (List ℕ)) → (levels : ℕ) → List ℕ → Read → Read

@@ -1,5 +1,5 @@
 -- What serves the proofs of reading files.
-use Rattle.std.specs.Prelude.{◌≡◌, ◌≤◌, ℕ, List, Option, Some, None, Result, OnOk}
+use Rattle.std.specs.Prelude.{◌≡◌, ◌≢◌, ◌≤◌, ◌++◌, ℕ, List, Option, Some, None, Result, IfSome, OnOk}
 use Rattle.kn_base.specs.Count.{Rose}
 use Rattle.kn_base.specs.declared.memory.Memory.{Memory}
 use Rattle.config_lines.specs.Files.{line_into, lines_into, include_at, files_into, texts_but}
@@ -47,10 +47,18 @@ abbrev pub ReadsFile : List (List ℕ × List ℕ) → (levels : ℕ) → List �
 ReadsFile files levels name old new =
     (missing : Option ℕ) → Agrees new missing → new ≡ files_into (texts_but files missing) levels name old
 
--- How reading goes: the shelf keeps its files, and its count of faults doesn't fall, and rose where a file could not be had. No file is
--- unread.
-pub record Goes (shelf shelf_now : Option (List (List ℕ × List ℕ))) (count count_now : ℕ) (old new : Read) (result : Result (Unit {0}) Memory) : Type 0 where
-  pub kept : shelf_now ≡ shelf
-  pub not_fewer : count ≤ count_now
-  pub missed : OnOk result ((new.fault ≡ Some faults.NoFile) → Rose count count_now)
+-- the names that a shelf tells, if it tells any, are those of what was read, behind these
+abbrev pub TellsOf : Read → (before : List (List ℕ)) → Option (List (List ℕ)) → Type 0
+TellsOf read before told = IfSome told (λ asked. asked ≡ before ++ read.names)
+
+-- How reading goes: the shelf keeps its files and is asked for those of the names that are kept, and its count of faults stands still, or rose
+-- where a file could not be had. No file is unread.
+pub record Goes
+    {H : Type 0} (files_of : H → Option (List (List ℕ × List ℕ))) (asked_of : H → Option (List (List ℕ))) (faults_of : H → ℕ)
+    (shelf shelf_now : H) (old new : Read) (result : Result (Unit {0}) Memory) : Type 0 where
+  pub kept : files_of shelf_now ≡ files_of shelf
+  pub asks : OnOk result ((before : List (List ℕ)) → TellsOf old before (asked_of shelf) → TellsOf new before (asked_of shelf_now))
+  pub spared : OnOk result (new.fault ≢ Some faults.NoFile → faults_of shelf_now ≡ faults_of shelf)
+  pub not_fewer : faults_of shelf ≤ faults_of shelf_now
+  pub missed : OnOk result ((new.fault ≡ Some faults.NoFile) → Rose (faults_of shelf) (faults_of shelf_now))
   pub files : OnOk result (old.files ≤ new.files)

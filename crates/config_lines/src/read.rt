@@ -2,6 +2,7 @@
 
 ghost use Rattle.std.specs.Prelude.{◌≡◌, ◌≢◌, ◌≤◌, ℕ, List, Option, Some, None, IfOk, OnOk, IfSome};
 ghost use Rattle.kn_base.specs.Count.{Rose};
+ghost use Rattle.kn_base.specs.Shelf.{AsksFor};
 ghost use Rattle.config_lines.specs.Files as spec;
 ghost use Rattle.config_lines.specs.FilesSteps.{Agrees, Goes, PutsLine, ReadsFile, ReadsIncluded, ReadsLine, ReadsText};
 ghost use Rattle.std.specs.Str.Lines.{lines};
@@ -46,6 +47,8 @@ pub enum LinesFault {
 #[derive(Drop)]
 pub struct Read {
     pub lines: Items<PlacedLine>,
+    /// The names that the shelf was asked for, in their order.
+    pub names: Items<Octets>,
     /// How many files were read.
     pub files: u32,
     pub fault: Option<LinesFault>,
@@ -60,6 +63,7 @@ fn put_line(
     read: &mut Read,
 ) -> Result<Option<Octets>, Memory>
     requires { read.old.fault ≡ None }
+    ensures names { OnOk result (read.new.names ≡ read.old.names) }
     ensures files { OnOk result (read.new.files ≡ read.old.files) }
     ensures present { OnOk result (read.new.fault ≢ Some NoFile) }
     ensures same { IfOk result (λ included. IfSome included (λ _. read.new ≡ read.old)) }
@@ -98,7 +102,7 @@ fn add_text<S: Shelf>(
 ) -> Result<(), Memory>
     requires { read.old.fault ≡ None }
     ensures read { OnOk result (IfSome (S.files shelf.old) (λ all. ReadsText all levels file 1 (lines text.now) read.old read.new)) }
-    ensures went { Goes (S.files shelf.old) (S.files shelf.new) (S.faults shelf.old) (S.faults shelf.new) read.old read.new result }
+    ensures went { Goes S.files S.asked S.faults shelf.old shelf.new read.old read.new result }
 {
     let mut rest = text;
     let mut number = 1;
@@ -130,7 +134,7 @@ fn add_line<S: Shelf>(
 ) -> Result<(), Memory>
     requires { read.old.fault ≡ None }
     ensures read { OnOk result (IfSome (S.files shelf.old) (λ all. ReadsLine all levels file number octets.now read.old read.new)) }
-    ensures went { Goes (S.files shelf.old) (S.files shelf.new) (S.faults shelf.old) (S.faults shelf.new) read.old read.new result }
+    ensures went { Goes S.files S.asked S.faults shelf.old shelf.new read.old read.new result }
 {
     match put_line(alloc, file, number, octets, read)? {
         Some(name) => add_included(alloc, shelf, name.as_slice(), levels, read),
@@ -149,7 +153,7 @@ fn add_included<S: Shelf>(
 ) -> Result<(), Memory>
     requires { read.old.fault ≡ None }
     ensures read { OnOk result (IfSome (S.files shelf.old) (λ all. ReadsIncluded all levels name.now read.old read.new)) }
-    ensures went { Goes (S.files shelf.old) (S.files shelf.new) (S.faults shelf.old) (S.faults shelf.new) read.old read.new result }
+    ensures went { Goes S.files S.asked S.faults shelf.old shelf.new read.old read.new result }
 {
     if levels == 0 {
         read.fault = Some(LinesFault::TooDeep);
@@ -169,12 +173,13 @@ fn add_file<S: Shelf>(
 ) -> Result<(), Memory>
     requires { read.old.fault ≡ None }
     ensures read { OnOk result (IfSome (S.files shelf.old) (λ all. ReadsFile all levels name.now read.old read.new)) }
-    ensures went { Goes (S.files shelf.old) (S.files shelf.new) (S.faults shelf.old) (S.faults shelf.new) read.old read.new result }
+    ensures went { Goes S.files S.asked S.faults shelf.old shelf.new read.old read.new result }
 {
     if read.files >= MOST_FILES {
         read.fault = Some(LinesFault::TooDeep);
         return Ok(());
     }
+    read.names.push(Octets::from_slice(alloc, name)?)?;
     match shelf.file(alloc, name) {
         Ok(text) => {
             let file = read.files;
@@ -192,16 +197,20 @@ fn add_file<S: Shelf>(
 /// Reads the lines of the file of a name, with those of each included file in the include's place, up to the first fault.
 ///
 /// `NoLine` exactly at the first line that is outside the grammar, `TooDeep` where an include stands at the eighth level below the
-/// first file or 1,000 files were read before it, `NoFile` only where the shelf's count of faults rose. `Memory`.
-#[tactic(auto, using(crate::proofs::Reading::read_from_none))]
+/// first file or 1,000 files were read before it, `NoFile` only where the shelf's count of faults rose, and else it stood still. The shelf
+/// is asked for each file once for each place that includes it, and for no other. `Memory`.
+#[tactic(auto, using(crate::proofs::Reading::read_from_none, crate::proofs::Reading::asked_from_none))]
 pub fn read_lines<S: Shelf>(alloc: Global, shelf: &mut S, name: &[u8]) -> Result<Read, Memory>
     ensures read { IfOk result (λ read. IfSome (S.files shelf.old) (λ all. read ≡ spec.lines_of all (spec.missing_by read.fault read.files) name.now)) }
     ensures kept { S.files shelf.new ≡ S.files shelf.old }
+    ensures asked { IfOk result (λ read. AsksFor read.names (S.asked shelf.old) (S.asked shelf.new)) }
+    ensures spared { IfOk result (λ read. (read.fault ≢ Some NoFile) → S.faults shelf.new ≡ S.faults shelf.old) }
     ensures missed { IfOk result (λ read. (read.fault ≡ Some NoFile) → Rose (S.faults shelf.old) (S.faults shelf.new)) }
     ensures not_fewer { S.faults shelf.old ≤ S.faults shelf.new }
 {
     let mut read = Read {
         lines: Items::new(alloc),
+        names: Items::new(alloc),
         files: 0,
         fault: None,
     };

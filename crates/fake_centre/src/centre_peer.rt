@@ -6,6 +6,7 @@ ghost use Rattle.kn_base.specs.declared.piece.Piece.TheVariants as piece_is;
 
 use crate::Centre;
 use kn_base::{Give, Items, Memory, Meter, Octets, Past, Peer, Piece, Sink, Source, Take, raised};
+use peer_dialer::{Closed, Counted};
 use std::alloc::Global;
 
 /// A peer whose other side is a centre. It tells its talk.
@@ -183,5 +184,17 @@ impl Peer for CentrePeer {
             quiets: self.quiets,
             ended: self.ended,
         })
+    }
+}
+
+impl Counted for CentrePeer {
+    fn close(self) -> Closed {
+        Closed {
+            pieces: Some(Items::from_vec(self.pieces)),
+            faults: 0,
+            starved: self.starved,
+            quiets: self.quiets,
+            ended: self.ended,
+        }
     }
 }

@@ -39,6 +39,8 @@ struct Case<'a> {
     budget: u64,
     /// `conf TEXT`: the configuration, with escapes.
     conf: &'a [u8],
+    /// `clock N,N,..`: what the clock reads, call by call; the last is read again and again.
+    clock: &'a [u8],
     /// `order`: the lengths of what was heard and said are written, in their order, in place of what was said.
     ordered: bool,
     /// `each cut`, `each call fails`.
@@ -65,6 +67,7 @@ fn add_item<'a>(case: &mut Case<'a>, item: &'a [u8]) {
         b"quiet" => case.quiet = true,
         b"budget" => case.budget = number(value),
         b"conf" => case.conf = value,
+        b"clock" => case.clock = value,
         b"order" => case.ordered = true,
         b"each" if value == b"cut".as_slice() => case.runs = Runs::EachCut,
         b"each" => case.runs = Runs::EachCall,
@@ -83,6 +86,7 @@ fn read_case(text: &[u8]) -> Case {
         quiet: false,
         budget: 1_048_576,
         conf: PLAIN,
+        clock: b"1000",
         ordered: false,
         runs: Runs::Once,
     };
@@ -137,7 +141,22 @@ fn put_end(report: &mut Octets, end: HttpEnd) -> Result<(), Memory> {
     }
 }
 
-/// Serves a peer with a clock that reads 1000, and puts last how the connection ended, how often the store was handed something, and
+/// The readings of a clock, which stand between commas.
+fn readings_of(alloc: Global, clock: &[u8]) -> Result<Vec<u64>, Memory> {
+    let mut readings = Vec::new(alloc);
+    let mut rest = clock;
+    for _ in 0..clock.len() {
+        if rest.is_empty() {
+            break;
+        }
+        let (reading, behind) = cut_at(rest, b',');
+        readings.push(number(reading))?;
+        rest = behind;
+    }
+    Ok(readings)
+}
+
+/// Serves a peer with the clock of its case, and puts last how the connection ended, how often the store was handed something, and
 /// at which time that was last.
 fn put_served<P: Peer>(
     alloc: Global,
@@ -149,7 +168,7 @@ fn put_served<P: Peer>(
     requires { AreSettings settings.now }
 {
     let mut store = Store::new(case.answers);
-    let mut clock = MemClock::new(alloc, vec![in alloc; 1000]?);
+    let mut clock = MemClock::new(alloc, readings_of(alloc, case.clock)?);
     let end = serve_http(alloc, settings, &mut store, peer, &mut clock, case.budget);
     put_end(report, end)?;
     put_named(report, b", handed ", store.handed)?;

@@ -52,6 +52,8 @@ impl<R: Files + Drop> Shelf for HostShelf<R> {
 
     ghost files = { λ _. None };
 
+    ghost asked = { λ _. None };
+
     ghost calls = { λ s. s.calls };
 
     ghost faults = { λ s. s.faults };

@@ -1,8 +1,8 @@
 //! Where configuration files stand.
 
-ghost use Rattle.std.specs.Prelude.{◌≡◌, ℕ, ◌≤◌, List, Option, Some, IfOk, IfSome, IsErrOf};
+ghost use Rattle.std.specs.Prelude.{◌≡◌, ◌⊎◌, ℕ, ◌≤◌, List, [], ◌∷◌, Option, Some, IfOk, IfSome, IsErrOf};
 ghost use Rattle.kn_base.specs.Count.{Rose, next_count};
-ghost use Rattle.kn_base.specs.Shelf.{text_of};
+ghost use Rattle.kn_base.specs.Shelf.{AsksFor, text_of};
 
 use crate::{Memory, Octets};
 use std::alloc::Global;
@@ -32,6 +32,9 @@ pub trait Shelf {
     /// The names and texts, where they are told. Of a name that stands twice the first counts.
     ghost files: { Self → Option (List (List ℕ × List ℕ)) };
 
+    /// The names that were asked for, in their order, where they are told.
+    ghost asked: { Self → Option (List (List ℕ)) };
+
     /// How many calls were made.
     ghost calls: { Self → ℕ };
 
@@ -42,7 +45,9 @@ pub trait Shelf {
     fn file(&mut self, alloc: Global, name: &[u8]) -> Result<Octets, ShelfFault>
         ensures text { IfOk result (λ text. IfSome (files self.old) (λ all. text_of name.now all ≡ Some text)) }
         ensures files { files self.new ≡ files self.old }
+        ensures asked { AsksFor (name.now ∷ []) (asked self.old) (asked self.new) }
         ensures calls { calls self.new ≡ next_count (calls self.old) }
         ensures failed { IsErrOf result ShelfFault.Failed → Rose (faults self.old) (faults self.new) }
+        ensures spared { IsErrOf result ShelfFault.Failed ⊎ (faults self.new ≡ faults self.old) }
         ensures kept { faults self.old ≤ faults self.new };
 }

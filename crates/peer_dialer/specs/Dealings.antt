@@ -1,10 +1,10 @@
 -- What a dialer has dealt with so far, as far as it tells that.
-use Rattle.std.specs.Prelude.{◌≡◌, ℕ, zero, suc, ◌≤◌, List, [], ◌∷◌, ◌++◌, Option, Some, None, IfSome, MatchOption}
+use Rattle.std.specs.Prelude.{◌≡◌, ℕ, zero, suc, ◌≤◌, List, [], ◌∷◌, ◌++◌, Option, Some, None, IfSome}
 use Rattle.kn_base.specs.Count.{Rose, next_count}
 use Rattle.kn_base.specs.Course.{Course, IsFresh}
-use Rattle.kn_base.specs.Talk.{IsPastOf}
-use Rattle.kn_base.specs.declared.piece.Past.{Past}
+use Rattle.peer_dialer.specs.Closed.{IsClosed}
 use Rattle.peer_dialer.specs.declared.asked.Asked.{Asked}
+use Rattle.peer_dialer.specs.declared.closed.Closed.{Closed}
 use Rattle.peer_dialer.specs.declared.dialer.Dialed.{Dialed}
 use Rattle.peer_dialer.specs.declared.dialer.Dialed.TheVariants as dial_is
 
@@ -15,7 +15,7 @@ pub record Dealings : Type 0 where
   pub given : ℕ
   pub left : Option ℕ
   pub dials : Option (List Asked)
-  pub pasts : Option (List Past)
+  pub pasts : Option (List Closed)
 
 -- a host and a port
 abbrev pub asked_for : List ℕ → ℕ → Asked
@@ -70,8 +70,8 @@ pub record Dials {P : Type 0} (course : P → Course) (host : List ℕ) (port : 
   pub so : DialsSo course answer old new
   pub keeps : KeepsDial (asked_for host port) old new
 
--- A peer with this course came back: its past is given, and where the pasts are told it was put last among them.
-pub record Parts (course : Course) (result : Option Past) (old new : Dealings) : Type 0 where
-  pub past : MatchOption result (course.talk ≡ None) (IsPastOf course)
-  pub pasts : IfSome new.pasts (λ _. (past : Past) × (result ≡ Some past) × Adds past old.pasts new.pasts)
+-- A peer with this course came back: what it was is given, its counts always; where the pasts are told it was put last among them.
+pub record Parts (course : Course) (result : Closed) (old new : Dealings) : Type 0 where
+  pub closed : IsClosed course result
+  pub pasts : Adds result old.pasts new.pasts
   pub same : new ≡ record old { pasts = new.pasts }

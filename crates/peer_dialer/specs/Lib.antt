@@ -1,3 +1,4 @@
+pub mod Closed
 pub mod Dealings
 pub mod Host
 pub mod MemDialer

@@ -2,7 +2,8 @@
 
 ghost use Rattle.std.specs.Prelude.{◌≡◌, IfOk};
 
-use kn_base::{Items, Memory, Octets, Past, Piece};
+use crate::Closed;
+use kn_base::{Items, Memory, Octets, Piece};
 use std::alloc::Global;
 
 fn copy_piece(alloc: Global, piece: &Piece) -> Result<Piece, Memory>
@@ -24,16 +25,25 @@ fn copy_pieces(alloc: Global, pieces: &[Piece]) -> Result<Items<Piece>, Memory>
     Ok(copy)
 }
 
-/// A copy of a past.
-pub(crate) fn copy_past(alloc: Global, past: &Past) -> Result<Past, Memory>
-    ensures { IfOk result (λ copy. copy ≡ past.now) }
+fn copy_talk(alloc: Global, talk: &Option<Items<Piece>>) -> Result<Option<Items<Piece>>, Memory>
+    ensures { IfOk result (λ copy. copy ≡ talk.now) }
 {
-    let pieces = copy_pieces(alloc, past.pieces.as_slice())?;
-    Ok(Past {
+    match talk {
+        Some(pieces) => Ok(Some(copy_pieces(alloc, pieces.as_slice())?)),
+        None => Ok(None),
+    }
+}
+
+/// A copy of what a connection was.
+pub(crate) fn copy_closed(alloc: Global, closed: &Closed) -> Result<Closed, Memory>
+    ensures { IfOk result (λ copy. copy ≡ closed.now) }
+{
+    let pieces = copy_talk(alloc, &closed.pieces)?;
+    Ok(Closed {
         pieces,
-        faults: past.faults,
-        starved: past.starved,
-        quiets: past.quiets,
-        ended: past.ended,
+        faults: closed.faults,
+        starved: closed.starved,
+        quiets: closed.quiets,
+        ended: closed.ended,
     })
 }

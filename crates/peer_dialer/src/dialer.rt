@@ -2,7 +2,8 @@
 
 ghost use Rattle.peer_dialer.specs.Dealings.{Dealings, Dials, Parts};
 
-use kn_base::{Past, Peer};
+use crate::Closed;
+use kn_base::Peer;
 
 /// What a dial answers.
 #[derive(Drop)]
@@ -27,7 +28,7 @@ pub trait Dialer {
     fn dial(&mut self, host: &[u8], port: u16) -> Dialed<Self::P>
         ensures { Dials Self.P.course host.now port result (dealings self.old) (dealings self.new) };
 
-    /// Closes a connection, and gives what it was, where its talk is told.
-    fn back(&mut self, peer: Self::P) -> Option<Past>
+    /// Closes a connection, and gives what it was: its counts, and its talk where that is told.
+    fn back(&mut self, peer: Self::P) -> Closed
         ensures { Parts (Self.P.course peer) result (dealings self.old) (dealings self.new) };
 }

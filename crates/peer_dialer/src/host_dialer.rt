@@ -2,8 +2,8 @@
 
 ghost use Rattle.std.specs.Prelude.{◌≡◌};
 
-use crate::{Dialed, Dialer, HostStream};
-use kn_base::{Past, Peer, raised};
+use crate::{Closed, Counted, Dialed, Dialer, HostStream};
+use kn_base::raised;
 use std::io;
 use std::io::ErrorKind;
 use std::net::{Net, OpenStream, TcpStream, ToSocketAddrs};
@@ -81,7 +81,7 @@ impl<R: Net + Drop> Dialer for HostDialer<R> {
         }
     }
 
-    fn back(&mut self, peer: HostStream<R::Stream>) -> Option<Past> {
-        peer.part()
+    fn back(&mut self, peer: HostStream<R::Stream>) -> Closed {
+        peer.close()
     }
 }

@@ -2,6 +2,7 @@
 
 ghost use Rattle.kn_base.specs.Course.{IsFresh};
 
+use crate::{Closed, Counted};
 use kn_base::{Give, Meter, Past, Peer, Sink, Source, Take, raised};
 use std::io::{ErrorKind, Read, Write};
 
@@ -86,5 +87,17 @@ impl<S: Read + Write + Drop> Sink for HostStream<S> {
 impl<S: Read + Write + Drop> Peer for HostStream<S> {
     fn part(self) -> Option<Past> {
         None
+    }
+}
+
+impl<S: Read + Write + Drop> Counted for HostStream<S> {
+    fn close(self) -> Closed {
+        Closed {
+            pieces: None,
+            faults: self.faults,
+            starved: 0,
+            quiets: self.quiets,
+            ended: self.ended,
+        }
     }
 }

@@ -8,8 +8,8 @@ ghost use Rattle.peer_dialer.specs.Dealings.{Dials, Parts, Adds, Stays, asked_fo
 ghost use Rattle.peer_dialer.specs.Told.{dials_in, pasts_in};
 
 use crate::told::{Told, count_pasts, keep_dial, keep_past, make_room};
-use crate::{Asked, Dialed, Dialer};
-use kn_base::{MemCalls, Memory, Past, Peer, raised};
+use crate::{Asked, Closed, Counted, Dialed, Dialer};
+use kn_base::{MemCalls, Memory, raised};
 use std::alloc::Global;
 use std::collections::VecDeque;
 
@@ -19,7 +19,7 @@ use std::collections::VecDeque;
 /// what was asked for, and the pasts of the peers that came back. A dial that finds no memory to keep what was asked for is a fault too, unless no
 /// peer is left, and from then on neither is told. Where none is found for the copy of a past, pasts aren't told from then on.
 #[derive(Drop)]
-pub struct MemDialer<P: Peer + Drop> {
+pub struct MemDialer<P: Counted + Drop> {
     alloc: Global,
     peers: VecDeque<P>,
     calls: MemCalls,
@@ -29,7 +29,7 @@ pub struct MemDialer<P: Peer + Drop> {
     ghost fresh: { All (λ peer. IsFresh (P.course peer)) peers.items } by { Prim.hlevel props },
 }
 
-impl<P: Peer + Drop> MemDialer<P> {
+impl<P: Counted + Drop> MemDialer<P> {
     ghost use Rattle.std.specs.Prelude.{option_map};
     ghost use Rattle.peer_dialer.specs.MemDialer.{mem_dealings, peers_of, dials_of, fresh_dealings};
 
@@ -83,7 +83,7 @@ impl<P: Peer + Drop> MemDialer<P> {
     }
 
     /// What became of the peers that came back, in order, where it is told.
-    pub fn pasts(&self) -> Option<&[Past]>
+    pub fn pasts(&self) -> Option<&[Closed]>
         ensures { option_map (λ pasts. pasts.now) result ≡ (mem_dealings self.now).pasts }
     {
         match &self.told {
@@ -129,7 +129,7 @@ fn prepare(
     make_room(told, away.saturating_add(1))
 }
 
-impl<P: Peer + Drop> Dialer for MemDialer<P> {
+impl<P: Counted + Drop> Dialer for MemDialer<P> {
     type P = P;
 
     ghost use Rattle.std.specs.Prelude.{IfSome, None};
@@ -163,13 +163,13 @@ impl<P: Peer + Drop> Dialer for MemDialer<P> {
     }
 
     /// Closes a connection, and keeps a copy of what it was.
-    fn back(&mut self, peer: P) -> Option<Past>
+    fn back(&mut self, peer: P) -> Closed
         ensures parts { Parts (P.course peer) result (mem_dealings self.old) (mem_dealings self.new) }
         ensures peers { peers_of self.new ≡ peers_of self.old }
         ensures uncounted { dials_of self.new ≡ dials_of self.old }
     {
-        let past = peer.part();
-        keep_past(self.alloc, &mut self.told, &past);
-        past
+        let closed = peer.close();
+        keep_past(self.alloc, &mut self.told, &closed);
+        closed
     }
 }

@@ -1,20 +1,19 @@
 //! What a dialer in memory keeps, so that it can be told.
 
-ghost use Rattle.std.specs.Prelude.{◌≡◌, [], ◌∷◌, ◌++◌, Some, OnOk, OnErr, IfSome};
-ghost use Rattle.kn_base.specs.declared.piece.Past.{Past};
+ghost use Rattle.std.specs.Prelude.{◌≡◌, [], ◌∷◌, ◌++◌, Some, OnOk, OnErr};
 ghost use Rattle.peer_dialer.specs.Dealings.{asked_for, Adds, Stays};
 ghost use Rattle.peer_dialer.specs.Told.{dials_in, pasts_in};
 
-use crate::Asked;
-use crate::copying::copy_past;
-use kn_base::{Memory, Octets, Past};
+use crate::copying::copy_closed;
+use crate::{Asked, Closed};
+use kn_base::{Memory, Octets};
 use std::alloc::Global;
 
 /// What was asked for, and what became of the peers that came back, as long as there was memory to keep that.
 #[derive(Drop)]
 pub struct Told {
     pub(crate) dials: Vec<Asked>,
-    pub(crate) pasts: Option<Vec<Past>>,
+    pub(crate) pasts: Option<Vec<Closed>>,
 }
 
 /// Puts what was asked for last.
@@ -81,25 +80,25 @@ pub(crate) fn count_pasts(told: &Option<Told>) -> usize {
 }
 
 /// Puts a copy of a past last. After `Memory` nothing has changed.
-fn push_past(alloc: Global, pasts: &mut Vec<Past>, past: &Past) -> Result<(), Memory>
+fn push_past(alloc: Global, pasts: &mut Vec<Closed>, past: &Closed) -> Result<(), Memory>
     ensures ok { OnOk result (pasts.new.items ≡ pasts.old.items ++ past.now ∷ []) }
     ensures err { OnErr result (pasts.new.items ≡ pasts.old.items) }
 {
-    pasts.push(copy_past(alloc, past)?)?;
+    pasts.push(copy_closed(alloc, past)?)?;
     Ok(())
 }
 
-/// Keeps a copy of what became of a peer. Where there is none, or no memory for it, pasts are told no longer.
-pub(crate) fn keep_past(alloc: Global, told: &mut Option<Told>, past: &Option<Past>)
+/// Keeps a copy of what became of a peer. Where there is no memory for it, pasts are told no longer.
+pub(crate) fn keep_past(alloc: Global, told: &mut Option<Told>, past: &Closed)
     ensures dials { dials_in told.new ≡ dials_in told.old }
-    ensures pasts { IfSome (pasts_in told.new) (λ _. (kept : Past) × (past.now ≡ Some kept) × Adds kept (pasts_in told.old) (pasts_in told.new)) }
+    ensures pasts { Adds past.now (pasts_in told.old) (pasts_in told.new) }
 {
     let Some(kept) = told else {
         return;
     };
-    let stays = match (&mut kept.pasts, past) {
-        (Some(pasts), Some(past)) => push_past(alloc, pasts, past).is_ok(),
-        _ => false,
+    let stays = match &mut kept.pasts {
+        Some(pasts) => push_past(alloc, pasts, past).is_ok(),
+        None => false,
     };
     if !stays {
         kept.pasts = None;

@@ -1,10 +1,11 @@
 //! Centres, by themselves and as peers.
 
-use crate::ends::{put_give, put_take, put_told};
+use crate::ends::{put_closed, put_give, put_take};
 use crate::script::cut_script;
 use fake_centre::{Centre, CentrePeer};
 use kn_base::{Memory, Octets, Peer, Sink, Source};
 use line_cases::{Acts, octets_of, put_acts, put_named};
+use peer_dialer::Closed;
 use route_rules::LinkKind;
 use sms_lines::put_hex;
 use std::alloc::Global;
@@ -59,7 +60,10 @@ fn put_ended<P: Peer + Drop>(
 ) -> Result<(), Memory> {
     let mut talking = Talking { peer };
     put_acts(alloc, &mut talking, acts, report)?;
-    put_told(report, &talking.peer.part())
+    match talking.peer.part() {
+        Some(past) => put_closed(report, &Closed::told(past)),
+        None => report.extend_from_slice(b"not told"),
+    }
 }
 
 /// `talk SCRIPT | ACT ..`: a peer over a centre.

@@ -4,13 +4,13 @@ ghost use Rattle.std.specs.Prelude.{All, IfOk};
 ghost use Rattle.kn_base.specs.Course.{IsFresh};
 ghost use Rattle.kn_base.specs.MemCourse.{mem_course};
 
-use crate::ends::{put_give, put_past, put_take, put_told};
-use kn_base::{MemPeer, MemTake, Memory, Octets, Past, Peer};
+use crate::ends::{put_closed, put_give, put_take};
+use kn_base::{MemPeer, MemTake, Memory, Octets, Peer};
 use line_cases::{
     Acts, both, cut_at, cut_item, number, numbers_of, octets_of, put_acts, put_named, put_text,
     words_of,
 };
-use peer_dialer::{Asked, Dialed, Dialer, MemDialer};
+use peer_dialer::{Asked, Closed, Dialed, Dialer, MemDialer};
 use std::alloc::Global;
 
 /// A peer that says one thing.
@@ -56,7 +56,7 @@ impl<D: Dialer> Acts for Calls<D> {
                 let call = put_call(&mut peer, report);
                 let past = self.dialer.back(peer);
                 call?;
-                put_told(report, &past)
+                put_closed(report, &past)
             }
             Dialed::Failed => report.extend_from_slice(b"failed"),
             Dialed::Gone => report.extend_from_slice(b"gone"),
@@ -79,13 +79,13 @@ fn put_dials(report: &mut Octets, dials: Option<&[Asked]>) -> Result<(), Memory>
 }
 
 /// Puts last what became of the peers that came back.
-fn put_pasts(report: &mut Octets, pasts: Option<&[Past]>) -> Result<(), Memory> {
+fn put_pasts(report: &mut Octets, pasts: Option<&[Closed]>) -> Result<(), Memory> {
     let Some(pasts) = pasts else {
         return report.extend_from_slice(b" | not told");
     };
     for past in pasts {
         report.extend_from_slice(b" | ")?;
-        put_past(report, past)?;
+        put_closed(report, past)?;
     }
     Ok(())
 }

@@ -1,9 +1,8 @@
 //! What ends of connections answer, and what they were.
 
-use kn_base::{
-    Items, Memory, Octets, Past, Piece, Sink, Source, Take, Wrote, write_all, write_hex,
-};
+use kn_base::{Items, Memory, Octets, Piece, Sink, Source, Take, Wrote, write_all, write_hex};
 use line_cases::put_named;
+use peer_dialer::Closed;
 
 /// Takes once, and puts last what came: octets in hex, or a word.
 pub fn put_take<S: Source>(source: &mut S, report: &mut Octets) -> Result<(), Memory> {
@@ -37,19 +36,14 @@ fn put_pieces(report: &mut Octets, pieces: &Items<Piece>) -> Result<(), Memory> 
     Ok(())
 }
 
-/// Puts last what is known of a connection that is over.
-pub fn put_past(report: &mut Octets, past: &Past) -> Result<(), Memory> {
-    put_named(report, b"faults ", past.faults)?;
-    put_named(report, b", starved ", past.starved)?;
-    put_named(report, b", quiets ", past.quiets)?;
-    report.extend_from_slice(if past.ended { b", ended" } else { b", open" })?;
-    put_pieces(report, &past.pieces)
-}
-
-/// Puts last what is known of a connection that is over, where it is told.
-pub fn put_told(report: &mut Octets, past: &Option<Past>) -> Result<(), Memory> {
-    match past {
-        Some(past) => put_past(report, past),
-        None => report.extend_from_slice(b"not told"),
+/// Puts last what is known of a connection that is over: its counts, and its talk where that is told.
+pub fn put_closed(report: &mut Octets, closed: &Closed) -> Result<(), Memory> {
+    put_named(report, b"faults ", closed.faults)?;
+    put_named(report, b", starved ", closed.starved)?;
+    put_named(report, b", quiets ", closed.quiets)?;
+    report.extend_from_slice(if closed.ended { b", ended" } else { b", open" })?;
+    match &closed.pieces {
+        Some(pieces) => put_pieces(report, pieces),
+        None => report.extend_from_slice(b", not told"),
     }
 }

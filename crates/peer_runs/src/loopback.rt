@@ -1,6 +1,6 @@
 //! A dialer on the machine, over the loopback.
 
-use crate::ends::{put_give, put_take, put_told};
+use crate::ends::{put_closed, put_give, put_take};
 use kn_base::{Memory, Octets, Peer};
 use line_cases::put_text;
 use peer_dialer::{Dialed, Dialer, HostDialer};
@@ -71,7 +71,7 @@ where
             let past = dialer.back(peer);
             talk?;
             report.extend_from_slice(b", ")?;
-            put_told(report, &past)
+            put_closed(report, &past)
         }
         Dialed::Failed => report.extend_from_slice(b"failed"),
         Dialed::Gone => report.extend_from_slice(b"gone"),

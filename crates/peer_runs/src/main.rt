@@ -6,6 +6,8 @@ mod centre;
 mod dialers;
 mod ends;
 mod loopback;
+mod machine;
+mod network;
 mod script;
 
 use kn_base::{Memory, Octets};
@@ -28,6 +30,8 @@ impl<R: Net + Copy> Cases for PeerCases<R> {
             dialers::put_dialer(alloc, text, report)?;
         } else if kind == b"loopback".as_slice() {
             loopback::put_loopback(self.rt, text, report)?;
+        } else if kind == b"network".as_slice() {
+            machine::put_network(alloc, text, report)?;
         } else if kind == b"heard".as_slice() {
             centre::put_heard(alloc, text, report)?;
         } else {

@@ -1,5 +1,5 @@
 -- Elements that fill octets, one after the other.
-use Rattle.std.proofs.Common.{◌≡◌, ◌≢◌, ℕ, zero, suc, ◌+◌, ◌-◌, ◌<◌, ◌≤◌, Bool, true, false, List, [], ◌∷◌, length, Option, Some, None, refl, ap, sym, ◌∙◌, arith}
+use Rattle.std.proofs.Common.{◌≡◌, ◌≢◌, ℕ, zero, suc, ◌+◌, ◌-◌, ◌<◌, true, false, List, [], ◌∷◌, Some, None, refl, ap, sym, ◌∙◌, arith}
 use Rattle.sendsms_form.specs.Variables.{behind_element, fill_by, fill}
 
 -- an element is left behind

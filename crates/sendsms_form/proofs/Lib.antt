@@ -1,3 +1,6 @@
 pub mod Elements
+pub mod Handed
+pub mod Lists
 pub mod Ranges
+pub mod SplitTexts
 pub mod Texts

@@ -1,5 +1,6 @@
 -- What a form that was read lies within.
-use Rattle.std.proofs.Common.{◌≡◌, ℕ, zero, suc, ◌+◌, ◌*◌, ◌%◌, ◌<◌, ◌≤◌, Bool, true, false, ◌&&◌, ◌==◌, nat_le, cond, leb, eqb, List, [], ◌∷◌, ◌++◌, length, take, drop, map, chars, codes, All, Option, Some, None, IfSome, Result, Ok, Err, refl, sym, ap, subst, ◌∙◌, arith, inl, inr, length-append}
+use Rattle.std.proofs.Common.{◌≡◌, ℕ, zero, suc, ◌*◌, ◌%◌, ◌^◌, ◌<◌, ◌≤◌, Bool, true, false, cond, leb, List, [], ◌∷◌, ◌++◌, length, take, drop, map, chars, All, Option, Some, None, IfSome, IfOk, Result, Ok, Err, refl, sym, ap, subst, ◌∙◌, arith, inl, inr, length-append}
+use Rattle.std.specs.Prelude.{⊤}
 use Rattle.std.proofs.lemmas.Bool.{and_parts, cases_Bool, leb-true, eqb-true, false≢true}
 use Rattle.std.proofs.lemmas.List.{take-append-drop, length-take-le}
 use Rattle.std.proofs.lemmas.List.Elements.{All-nil, All-cons, All-append}
@@ -17,24 +18,25 @@ use Rattle.sms_record.specs.declared.address.Address.{Address}
 use Rattle.sms_record.specs.declared.coding.Coding.{Coding}
 use Rattle.sms_record.specs.declared.coding.Coding.TheVariants.{Seven, Eight, Ucs2}
 use Rattle.sms_record.specs.Limits.{most_digits}
-use Rattle.sms_record.specs.Header.{Element, element, elements, header, IsHeaderOrNone}
+use Rattle.sms_record.specs.Header.{Element, element, elements, IsHeaderOrNone}
 use Rattle.sms_record.specs.Record.{IsOfCoding}
 use Rattle.config_groups.specs.declared.settings.user.User.{User}
 use Rattle.config_groups.specs.Ranges.{IsUser}
-use Rattle.config_values.specs.Values.{is_within, is_number_within, number_of, behind_plus}
+use Rattle.config_values.specs.Values.{is_number_within, number_of, behind_plus}
 use Rattle.config_values.specs.Forms.{IsWithin, IsSender}
 use Rattle.config_values.proofs.Forms as forms
 use Rattle.http_text.specs.declared.answer.Answer.{Answer}
+use Rattle.sms_record.specs.Limits.{last_class, most_body, most_mask, most_minutes, most_name, most_url}
+use Rattle.sms_record.specs.Record.{IsAddress, IsSms}
+use Rattle.sms_record.specs.declared.sms.Sms.{Sms}
+use Rattle.http_text.specs.declared.answer.spot.Spot.{Spot}
+use Rattle.http_text.specs.declared.answer.spot.Spot.TheVariants.{To, From, Mclass, Udh, Smsc, Validity, Deferred, DlrMask, DlrUrl, Account}
+use Rattle.http_text.specs.declared.answer.spot.Spot.TheVariants as spots
 use Rattle.sendsms_form.specs.declared.form.Form.{Form}
-use Rattle.sendsms_form.specs.declared.handling.Handling.{Handling}
-use Rattle.sendsms_form.specs.declared.manner.Manner.{Manner}
 use Rattle.sendsms_form.specs.declared.pairs.Pair.{Pair}
-use Rattle.sendsms_form.specs.declared.parties.Parties.{Parties}
-use Rattle.sendsms_form.specs.declared.tracking.Tracking.{Tracking}
-use Rattle.sendsms_form.specs.Pairs.{value}
-use Rattle.sendsms_form.specs.Variables.{words, is_number, number, are_receivers, receivers_of, sender_by, coding_of, class_of, charset_of, behind_element, fill, is_header, is_udh, udh_of, smsc_by, number_in, octets_of, mask_by, is_text_in, is_body_in, septets, ucs2, body_in, body_of}
-use Rattle.sendsms_form.specs.Form.{parties_by, parties_of, manner_by, manner_in, manner_of, handling_by, handling_of, tracking_by, tracking_of, form_by, form_behind, form_in, form_of}
-use Rattle.sendsms_form.specs.Ranges.{IsReceiver, AreParties, IsManner, IsHandling, IsTracking, IsForm}
+use Rattle.sendsms_form.specs.Variables.{value_of, right, behind, number_in, number_given, number, or_zero, octets_in, octets, words, is_number, address_of, are_receivers, addresses_in, sender_by, coding_by, fill, is_header, is_udh, header_in, first_of, mask_by, is_body_in, body_in, body_of}
+use Rattle.sendsms_form.specs.Form.{receivers_of, sender_of, coding_of, class_of, charset_for, udh_of, manner_of, smsc_by, smsc_of, delivery_of, reports_of, blank, model_of, text_of, form_of}
+use Rattle.sendsms_form.specs.Ranges.{IsReceiver, IsModel, IsForm}
 
 -- what a test lets through is what the test tells
 tested : {X : Type 0} (passed : Bool) (x : X) (P : X → Type 0) → (passed ≡ true → P x) → IfSome (cond passed (Some x) None) P
@@ -45,33 +47,81 @@ tested false x P tells = tt
 there : {X : Type 0} (o : Option X) (x : X) (P : X → Type 0) → IfSome o P → o ≡ Some x → P x
 there o x P tells is = subst (λ p. IfSome p P) is tells
 
+-- ---- a variable, and what follows
+
+-- what is right is what the form of its variable tells
+right_is : {X : Type 0} (spot : Spot) (o : Option X) (P : X → Type 0) → IfSome o P → IfOk (right spot o) P
+right_is spot None P h = tt
+right_is spot (Some x) P h = h
+
+-- what is read behind something that is so is so
+behind_is : {X Y : Type 0} (r : Result X Answer) (next : X → Result Y Answer) (P : X → Type 0) (Q : Y → Type 0)
+    → IfOk r P → ((x : X) → P x → IfOk (next x) Q) → IfOk (behind r next) Q
+behind_is (Err answer) next P Q h step = tt
+behind_is (Ok x) next P Q h step = step x h
+
+-- nothing is known of it
+any : {X : Type 0} (r : Result X Answer) → IfOk r (λ x. ⊤)
+any (Err answer) = tt
+any (Ok x) = tt
+
+number_in_is : (least most : ℕ) (given : List ℕ) → IfSome (number_in least most given) (λ number. IfSome number (λ n. n ≤ most))
+number_in_is least most [] = tt
+number_in_is least most (octet ∷ octets) =
+    tested (is_number_within least most (octet ∷ octets)) (Some (number_of (octet ∷ octets))) (λ number. IfSome number (λ n. n ≤ most))
+    (λ is. (forms.number least most (octet ∷ octets) is).1)
+
+-- a row of numbers
+number_given_is : (spot : Spot) (least most : ℕ) (given : List Pair)
+    → IfOk (number_given spot least most given) (λ number. IfSome number (λ n. n ≤ most))
+number_given_is spot least most given =
+    right_is spot (number_in least most (value_of spot given)) (λ number. IfSome number (λ n. n ≤ most)) (number_in_is least most (value_of spot given))
+
+or_zero_is : (most : ℕ) (number : Option ℕ) → IfSome number (λ n. n ≤ most) → or_zero number ≤ most
+or_zero_is most None h = omega arith
+or_zero_is most (Some number) h = h
+
+number_is : (spot : Spot) (least most : ℕ) (given : List Pair) → IfOk (number spot least most given) (λ n. n ≤ most)
+number_is spot least most given =
+    behind_is (number_given spot least most given) (λ number. Ok (or_zero number)) (λ number. IfSome number (λ n. n ≤ most)) (λ n. n ≤ most)
+    (number_given_is spot least most given) (or_zero_is most)
+
+abbrev IsShort : (most : ℕ) → List ℕ → Type 0
+IsShort most octets = length octets ≤ most
+
+-- a row of octets
+octets_is : (spot : Spot) (most : ℕ) (given : List Pair) → IfOk (octets spot most given) (IsShort most)
+octets_is spot most given =
+    right_is spot (octets_in most (value_of spot given)) (IsShort most)
+    (tested (leb (length (value_of spot given)) most) (value_of spot given) (IsShort most) (λ is. leb-true (length (value_of spot given)) most is))
+
 -- ---- to, from
 
-receiver : (word : List ℕ) → is_number word ≡ true → IsReceiver (number word)
+receiver : (word : List ℕ) → is_number word ≡ true → IsReceiver (address_of word)
 receiver word is =
     let form = forms.digits most_digits (behind_plus word) is in
     (form.0.0, form.0.1, form.1)
 
-each_receiver : (all : List (List ℕ)) → list_all is_number all ≡ true → All IsReceiver (map number all)
+each_receiver : (all : List (List ℕ)) → list_all is_number all ≡ true → All IsReceiver (map address_of all)
 each_receiver [] is = All-nil IsReceiver
 each_receiver (word ∷ rest) is =
     let parts = and_parts (is_number word) (list_all is_number rest) is in
-    All-cons IsReceiver (number word) (map number rest) (receiver word parts.0) (each_receiver rest parts.1)
+    All-cons IsReceiver (address_of word) (map address_of rest) (receiver word parts.0) (each_receiver rest parts.1)
 
-length-numbers : (all : List (List ℕ)) → length (map number all) ≡ length all
-length-numbers [] = refl
-length-numbers (word ∷ rest) = ap suc (length-numbers rest)
+length-addresses : (all : List (List ℕ)) → length (map address_of all) ≡ length all
+length-addresses [] = refl
+length-addresses (word ∷ rest) = ap suc (length-addresses rest)
 
 abbrev AreReceivers : List Address → Type 0
 AreReceivers receivers = IsWithin 1 50 (length receivers) × All IsReceiver receivers
 
-receivers_are : (given : List ℕ) → IfSome (receivers_of given) AreReceivers
-receivers_are given =
-    tested (are_receivers given) (map number (words given)) AreReceivers
+addresses_are : (given : List ℕ) → IfSome (addresses_in given) AreReceivers
+addresses_are given =
+    tested (are_receivers given) (map address_of (words given)) AreReceivers
     (λ is.
     let parts = and_parts _ _ is in
     let bounds = forms.within 1 50 (length (words given)) parts.0 in
-    (subst (IsWithin 1 50) (sym (length-numbers (words given))) bounds, each_receiver (words given) parts.1))
+    (subst (IsWithin 1 50) (sym (length-addresses (words given))) bounds, each_receiver (words given) parts.1))
 
 unless_own : (own common : Option Address) → IfSome own IsSender → IfSome common IsSender → IfSome (option_or own common) IsSender
 unless_own (Some own) common o c = o
@@ -82,22 +132,6 @@ sender_is : (faked : Option Address) (given : List ℕ) (own common : Option Add
 sender_is (Some faked) given own common f o c = f
 sender_is None [] own common f o c = unless_own own common o c
 sender_is None (octet ∷ octets) own common f o c = forms.sender (octet ∷ octets)
-
-parties_are : (receivers : Option (List Address)) (sender : Option Address) (parties : Parties) → IfSome receivers AreReceivers → IfSome sender IsSender
-    → parties_by receivers sender ≡ Ok parties → AreParties parties
-parties_are None sender parties r s is = cc
-parties_are (Some receivers) None parties r s is = cc
-parties_are (Some receivers) (Some sender) parties r s is =
-    let same : record { receivers = receivers; sender = sender } ≡ parties = cc in
-    subst AreParties same (record { many = r.0; receivers = r.1; sender = s })
-
--- ---- coding, mclass, charset, udh
-
-class_is : (given : List ℕ) → IfSome (class_of given) (λ class. IfSome class (λ c. c ≤ 3))
-class_is [] = tt
-class_is (octet ∷ octets) =
-    tested (is_number_within 0 3 (octet ∷ octets)) (Some (number_of (octet ∷ octets))) (λ class. IfSome class (λ c. c ≤ 3))
-    (λ is. (forms.number 0 3 (octet ∷ octets) is).1)
 
 -- elements that fill octets are elements
 pub elements_in : (most : ℕ) (octets : List ℕ) → fill most octets ≡ true → (es : List Element) × (octets ≡ elements es)
@@ -133,71 +167,10 @@ header_is (count ∷ rest) is =
 abbrev IsUdh : List ℕ → Type 0
 IsUdh octets = (length octets ≤ 60) × IsHeaderOrNone octets
 
-udh_is : (given : List ℕ) → IfSome (udh_of given) IsUdh
+udh_is : (given : List ℕ) → IfSome (header_in given) IsUdh
 udh_is given =
     tested (is_udh given) given IsUdh
     (λ is. let parts = and_parts _ _ is in (leb-true (length given) 60 parts.0, header_is given parts.1))
-
-manner_is : (coding : Coding) (class : Option (Option ℕ)) (charset : Option Charset) (udh : Option (List ℕ)) (manner : Manner)
-    → IfSome class (λ c. IfSome c (λ n. n ≤ 3)) → IfSome udh IsUdh → manner_by coding class charset udh ≡ Ok manner → IsManner manner
-manner_is coding None charset udh manner c u is = cc
-manner_is coding (Some class) None udh manner c u is = cc
-manner_is coding (Some class) (Some charset) None manner c u is = cc
-manner_is coding (Some class) (Some charset) (Some udh) manner c u is =
-    let same : record { coding = coding; class = class; charset = charset; udh = udh } ≡ manner = cc in
-    subst IsManner same (record { class = c; udh_len = u.0; udh = u.1 })
-
-manner_in_is : (coding : Option Coding) (given : List Pair) (manner : Manner) → manner_in coding given ≡ Ok manner → IsManner manner
-manner_in_is None given manner is = cc
-manner_in_is (Some coding) given manner is =
-    manner_is coding (class_of (value (codes "mclass") given)) (charset_of coding (value (codes "charset") given)) (udh_of (value (codes "udh") given)) manner
-    (class_is (value (codes "mclass") given)) (udh_is (value (codes "udh") given)) is
-
--- ---- smsc, validity, deferred
-
-abbrev IsShort : (most : ℕ) → List ℕ → Type 0
-IsShort most octets = length octets ≤ most
-
-smsc_is : (forced given own : List ℕ) → IsShort 64 forced → IsShort 64 own → IfSome (smsc_by forced given own) (IsShort 64)
-smsc_is (octet ∷ octets) given own f o = f
-smsc_is [] [] own f o = o
-smsc_is [] (octet ∷ octets) own f o =
-    tested (leb (length (octet ∷ octets)) 64) (octet ∷ octets) (IsShort 64) (λ is. leb-true (length (octet ∷ octets)) 64 is)
-
-number_is : (least most : ℕ) (given : List ℕ) → IfSome (number_in least most given) (λ n. n ≤ most)
-number_is least most [] = omega arith
-number_is least most (octet ∷ octets) =
-    tested (is_number_within least most (octet ∷ octets)) (number_of (octet ∷ octets)) (λ n. n ≤ most)
-    (λ is. (forms.number least most (octet ∷ octets) is).1)
-
-handling_is : (smsc : Option (List ℕ)) (validity deferred : Option ℕ) (handling : Handling)
-    → IfSome smsc (IsShort 64) → IfSome validity (λ n. n ≤ 43200) → IfSome deferred (λ n. n ≤ 43200)
-    → handling_by smsc validity deferred ≡ Ok handling → IsHandling handling
-handling_is None validity deferred handling s v d is = cc
-handling_is (Some smsc) None deferred handling s v d is = cc
-handling_is (Some smsc) (Some validity) None handling s v d is = cc
-handling_is (Some smsc) (Some validity) (Some deferred) handling s v d is =
-    let same : record { smsc = smsc; validity = validity; deferred = deferred } ≡ handling = cc in
-    subst IsHandling same (record { smsc = s; validity = v; deferred = d })
-
--- ---- dlr-mask, dlr-url, account
-
-octets_are : (most : ℕ) (given : List ℕ) → IfSome (octets_of most given) (IsShort most)
-octets_are most given = tested (leb (length given) most) given (IsShort most) (λ is. leb-true (length given) most is)
-
-mask_is : (mask : ℕ) (url : List ℕ) → mask ≤ 31 → mask_by mask url ≤ 31
-mask_is mask [] small = omega arith
-mask_is mask (octet ∷ octets) small = small
-
-tracking_is : (mask : Option ℕ) (url account : Option (List ℕ)) (tracking : Tracking)
-    → IfSome mask (λ n. n ≤ 31) → IfSome url (IsShort 2048) → IfSome account (IsShort 64)
-    → tracking_by mask url account ≡ Ok tracking → IsTracking tracking
-tracking_is None url account tracking m u a is = cc
-tracking_is (Some mask) None account tracking m u a is = cc
-tracking_is (Some mask) (Some url) None tracking m u a is = cc
-tracking_is (Some mask) (Some url) (Some account) tracking m u a is =
-    let same : record { mask = mask_by mask url; url = url; account = account } ≡ tracking = cc in
-    subst IsTracking same (record { mask = mask_is mask url m; url = u; account = a })
 
 -- ---- text
 
@@ -228,50 +201,182 @@ coded Ucs2 Latin1 text is = even_text (chars (text_in Latin1 text))
 body_is : (coding : Coding) (charset : Charset) (text : List ℕ) → IfSome (body_of coding charset text) (IsOfCoding coding)
 body_is coding charset text = tested (is_body_in coding charset text) (body_in coding charset text) (IsOfCoding coding) (coded coding charset text)
 
+-- ---- the fields of a message
+
+empty_coded : (coding : Coding) → IsOfCoding coding []
+empty_coded Seven = All-nil (λ septet. septet < 128)
+empty_coded Eight = tt
+empty_coded Ucs2 = refl
+
+-- a message of which its sender and its manner are known
+blank_is : (sender : Address) (service : List ℕ) (coding : Coding) (class : Option ℕ) (charset : Charset) (udh : List ℕ)
+    → IsSender sender → IsShort 64 service → IfSome class (λ n. n ≤ last_class) → IsUdh udh
+    → IsModel (record (blank sender service) { coding = coding; class = class; charset = charset; udh = udh })
+blank_is sender service coding class charset udh s few c u =
+    let short : length udh ≤ 60 = u.0 in
+    record {
+      sms = record {
+        sender = s.1;
+        receiver = omega arith;
+        class = c;
+        total = omega arith;
+        part = (omega arith, omega arith);
+        mask = omega arith;
+        validity = omega arith;
+        deferred = omega arith;
+        time = omega arith;
+        udh_len = omega (arith, short);
+        udh = u.1;
+        body_len = omega arith;
+        body = empty_coded coding;
+        smsc = omega arith;
+        url = omega arith;
+        account = omega arith;
+        service = few;
+      };
+      sender = s;
+      udh_len = u.0;
+    }
+
+manner_is : (given : List Pair) (sender : Address) (service : List ℕ) → IsSender sender → IsShort 64 service → IfOk (manner_of given (blank sender service)) IsModel
+unfolding manner_of
+manner_is given sender service s few =
+    behind_is (coding_of given) _ (λ n. ⊤) IsModel (any (coding_of given)) (λ number _.
+    behind_is (class_of given) _ (λ class. IfSome class (λ n. n ≤ last_class)) IsModel (number_given_is Mclass 0 last_class given) (λ class c.
+    behind_is (charset_for (coding_by number (value_of Udh given)) given) _ (λ n. ⊤) IsModel (any (charset_for (coding_by number (value_of Udh given)) given)) (λ charset _.
+    behind_is (udh_of given) _ IsUdh IsModel (right_is Udh (header_in (value_of Udh given)) IsUdh (udh_is (value_of Udh given))) (λ udh u.
+    blank_is sender service (coding_by number (value_of Udh given)) class charset udh s few c u))))
+
+smsc_is : (user : User) (given : List Pair) → IsUser user → IfOk (smsc_of user given) (IsShort most_name)
+smsc_is user given u = by_forced user.forced_smsc u.forced_smsc
+  where
+    first_is : (smsc : List ℕ) → IsShort most_name smsc → IsShort most_name (first_of smsc user.default_smsc)
+    first_is [] s = u.default_smsc
+    first_is (octet ∷ octets) s = s
+
+    by_forced : (forced : List ℕ) → IsShort 64 forced → IfOk (smsc_by forced user given) (IsShort most_name)
+    by_forced (octet ∷ octets) f = f
+    by_forced [] f =
+        behind_is (octets Smsc most_name given) (λ smsc. Ok (first_of smsc user.default_smsc)) (IsShort most_name) (IsShort most_name) (octets_is Smsc most_name given) (λ smsc s. first_is smsc s)
+
+delivery_is : (user : User) (given : List Pair) (sms : Sms) → IsUser user → IsModel sms → IfOk (delivery_of user given sms) IsModel
+unfolding delivery_of
+delivery_is user given sms u h =
+    behind_is (smsc_of user given) _ (IsShort most_name) IsModel (smsc_is user given u) (λ smsc s.
+    behind_is (number Validity 1 most_minutes given) _ (λ n. n ≤ most_minutes) IsModel (number_is Validity 1 most_minutes given) (λ validity v.
+    behind_is (number Deferred 0 most_minutes given) _ (λ n. n ≤ most_minutes) IsModel (number_is Deferred 0 most_minutes given) (λ deferred d.
+    let i = h.sms in
+    record {
+      sms = record {
+        sender = i.sender;
+        receiver = i.receiver;
+        class = i.class;
+        total = i.total;
+        part = i.part;
+        mask = i.mask;
+        validity = v;
+        deferred = d;
+        time = i.time;
+        udh_len = i.udh_len;
+        udh = i.udh;
+        body_len = i.body_len;
+        body = i.body;
+        smsc = s;
+        url = i.url;
+        account = i.account;
+        service = i.service;
+      };
+      sender = h.sender;
+      udh_len = h.udh_len;
+    })))
+
+mask_is : (mask : ℕ) (url : List ℕ) → mask ≤ most_mask → mask_by mask url ≤ most_mask
+mask_is mask [] small = omega arith
+mask_is mask (octet ∷ octets) small = small
+
+reports_is : (given : List Pair) (sms : Sms) → IsModel sms → IfOk (reports_of given sms) IsModel
+unfolding reports_of
+reports_is given sms h =
+    behind_is (number DlrMask 0 most_mask given) _ (λ n. n ≤ most_mask) IsModel (number_is DlrMask 0 most_mask given) (λ mask m.
+    behind_is (octets DlrUrl most_url given) _ (IsShort most_url) IsModel (octets_is DlrUrl most_url given) (λ url l.
+    behind_is (octets Account most_name given) _ (IsShort most_name) IsModel (octets_is Account most_name given) (λ account a.
+    let i = h.sms in
+    record {
+      sms = record {
+        sender = i.sender;
+        receiver = i.receiver;
+        class = i.class;
+        total = i.total;
+        part = i.part;
+        mask = mask_is mask url m;
+        validity = i.validity;
+        deferred = i.deferred;
+        time = i.time;
+        udh_len = i.udh_len;
+        udh = i.udh;
+        body_len = i.body_len;
+        body = i.body;
+        smsc = i.smsc;
+        url = l;
+        account = a;
+        service = i.service;
+      };
+      sender = h.sender;
+      udh_len = h.udh_len;
+    })))
+
+-- a message is one that a record keeps, whatever its receiver, body and time, where these are
+pub sent_is : (model : Sms) (receiver : Address) (body : List ℕ) (total part time : ℕ) → IsSms model → IsAddress receiver → total ≤ 100
+    → (1 ≤ part) × (part ≤ total) → time < 2 ^ 37 → length body ≤ most_body → IsOfCoding model.coding body
+    → IsSms (record model { receiver = receiver; body = body; total = total; part = part; time = time })
+sent_is model receiver body total part time i r many among below few coded = record {
+  sender = i.sender;
+  receiver = r;
+  class = i.class;
+  total = many;
+  part = among;
+  mask = i.mask;
+  validity = i.validity;
+  deferred = i.deferred;
+  time = below;
+  udh_len = i.udh_len;
+  udh = i.udh;
+  body_len = few;
+  body = coded;
+  smsc = i.smsc;
+  url = i.url;
+  account = i.account;
+  service = i.service;
+}
+
 -- ---- all together
 
-form_is : (parties : Parties) (manner : Manner) (handling : Handling) (tracking : Tracking) (body : Option (List ℕ)) (form : Form)
-    → AreParties parties → IsManner manner → IsHandling handling → IsTracking tracking → IfSome body (IsOfCoding manner.coding)
-    → form_by parties manner handling tracking body ≡ Ok form → IsForm form
-form_is parties manner handling tracking None form p m h t b is = cc
-form_is parties manner handling tracking (Some body) form p m h t b is =
-    let same : record { parties = parties; manner = manner; handling = handling; tracking = tracking; body = body } ≡ form = cc in
-    subst IsForm same (record { parties = p; manner = m; handling = h; tracking = t; body = b })
+model_is : (user : User) (common : Option Address) (given : List Pair) → IsUser user → IfSome common IsSender → IfOk (model_of user common given) IsModel
+unfolding model_of
+model_is user common given u c =
+    behind_is (sender_of user common given) _ IsSender IsModel
+    (right_is From (sender_by user.faked_sender (value_of From given) user.default_sender common) IsSender
+    (sender_is user.faked_sender (value_of From given) user.default_sender common u.faked_sender u.default_sender c)) (λ sender s.
+    behind_is (manner_of given (blank sender user.name)) _ IsModel IsModel (manner_is given sender user.name s u.name.1) (λ sms m.
+    behind_is (delivery_of user given sms) _ IsModel IsModel (delivery_is user given sms u m) (λ sms d.
+    reports_is given sms d)))
 
-behind_is : (parties : Parties) (manner : Manner) (handling : Result Handling Answer) (tracking : Result Tracking Answer) (text : List ℕ) (form : Form)
-    → AreParties parties → IsManner manner → ((x : Handling) → handling ≡ Ok x → IsHandling x) → ((x : Tracking) → tracking ≡ Ok x → IsTracking x)
-    → form_behind parties manner handling tracking text ≡ Ok form → IsForm form
-behind_is parties manner (Err answer) tracking text form p m h t is = cc
-behind_is parties manner (Ok handling) (Err answer) text form p m h t is = cc
-behind_is parties manner (Ok handling) (Ok tracking) text form p m h t is =
-    form_is parties manner handling tracking (body_of manner.coding manner.charset text) form p m (h handling refl) (t tracking refl)
-    (body_is manner.coding manner.charset text) is
-
-all_in : (parties : Result Parties Answer) (manner : Result Manner Answer) (handling : Result Handling Answer) (tracking : Result Tracking Answer)
-    (text : List ℕ) (form : Form)
-    → ((x : Parties) → parties ≡ Ok x → AreParties x) → ((x : Manner) → manner ≡ Ok x → IsManner x)
-    → ((x : Handling) → handling ≡ Ok x → IsHandling x) → ((x : Tracking) → tracking ≡ Ok x → IsTracking x)
-    → form_in parties manner handling tracking text ≡ Ok form → IsForm form
-all_in (Err answer) manner handling tracking text form p m h t is = cc
-all_in (Ok parties) (Err answer) handling tracking text form p m h t is = cc
-all_in (Ok parties) (Ok manner) handling tracking text form p m h t is =
-    behind_is parties manner handling tracking text form (p parties refl) (m manner refl) h t is
+text_is : (model : Sms) (given : List Pair) → IfOk (text_of model given) (IsOfCoding model.coding)
+text_is model given =
+    right_is spots.Text (body_of model.coding model.charset (value_of spots.Text given)) (IsOfCoding model.coding)
+    (body_is model.coding model.charset (value_of spots.Text given))
 
 -- the form of a user's request lies within the ranges of its table
-pub form_within : (user : User) (common : Option Address) (given : List Pair) (form : Form) → IsUser user → IfSome common IsSender
+form_within : (user : User) (common : Option Address) (given : List Pair) → IsUser user → IfSome common IsSender
+    → IfOk (form_of user common given) IsForm
+unfolding form_of
+form_within user common given u c =
+    behind_is (receivers_of given) _ AreReceivers IsForm
+    (right_is To (addresses_in (value_of To given)) AreReceivers (addresses_are (value_of To given))) (λ receivers r.
+    behind_is (model_of user common given) _ IsModel IsForm (model_is user common given u c) (λ model m.
+    behind_is (text_of model given) _ (IsOfCoding model.coding) IsForm (text_is model given) (λ body b.
+    record { many = r.0; receivers = r.1; model = m; body = b })))
+
+pub form_is : (user : User) (common : Option Address) (given : List Pair) (form : Form) → IsUser user → IfSome common IsSender
     → form_of user common given ≡ Ok form → IsForm form
-unfolding form_of parties_of manner_of handling_of tracking_of
-form_within user common given form u c is =
-    all_in (parties_of user common given) (manner_of given) (handling_of user given) (tracking_of given) (value (codes "text") given) form
-    (λ x e. parties_are (receivers_of (value (codes "to") given)) (sender_by user.faked_sender (value (codes "from") given) user.default_sender common) x
-    (receivers_are (value (codes "to") given))
-    (sender_is user.faked_sender (value (codes "from") given) user.default_sender common u.faked_sender u.default_sender c) e)
-    (λ x e. manner_in_is (coding_of (value (codes "coding") given) (value (codes "udh") given)) given x e)
-    (λ x e. handling_is (smsc_by user.forced_smsc (value (codes "smsc") given) user.default_smsc) (number_in 1 43200 (value (codes "validity") given))
-    (number_in 0 43200 (value (codes "deferred") given)) x
-    (smsc_is user.forced_smsc (value (codes "smsc") given) user.default_smsc u.forced_smsc u.default_smsc)
-    (number_is 1 43200 (value (codes "validity") given)) (number_is 0 43200 (value (codes "deferred") given)) e)
-    (λ x e. tracking_is (number_in 0 31 (value (codes "dlr-mask") given)) (octets_of 2048 (value (codes "dlr-url") given))
-    (octets_of 64 (value (codes "account") given)) x
-    (number_is 0 31 (value (codes "dlr-mask") given)) (octets_are 2048 (value (codes "dlr-url") given)) (octets_are 64 (value (codes "account") given)) e)
-    is
+form_is user common given form u c is = subst (λ r. IfOk r IsForm) is (form_within user common given u c)

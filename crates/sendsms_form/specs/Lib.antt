@@ -1,4 +1,5 @@
 pub mod Form
+pub mod Messages
 pub mod Pairs
 pub mod Ranges
 pub mod Variables

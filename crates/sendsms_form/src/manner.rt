@@ -1,96 +1,64 @@
 //! How a message is to be read: its coding, its class, its charset and its header.
 
-ghost use Rattle.std.specs.Prelude.{◌≡◌, ◌⊎◌, ◌≤◌, Some, IfOk, IfErr, length};
-ghost use Rattle.sendsms_form.specs.Form.{manner_of};
+ghost use Rattle.std.specs.Prelude.{◌≡◌, ◌⊎◌, ◌≤◌, Ok, Err, OnOk, IfErr, IfSome, length};
+ghost use Rattle.sendsms_form.specs.Form as form;
 ghost use Rattle.sendsms_form.specs.Variables as spec;
+ghost use Rattle.sendsms_form.specs.Variables.{RefusesAs};
 
 use crate::Pair;
 use crate::header::is_header;
-use crate::pairs::value;
-use config_values::{Grammar, holds, number_of};
+use crate::variable::{number_given, value_of};
 use http_text::{Answer, Spot};
-use kn_base::{Charset, Memory, Octets};
-use sms_record::Coding;
+use kn_base::{Charset, Octets};
+use sms_record::limits::LAST_CLASS;
+use sms_record::{Coding, Sms};
 use std::alloc::Global;
 
 /// The most octets of a header that a request gives.
 const MOST_HEADER: usize = 60;
 
-/// How a message is to be read.
-#[derive(Drop)]
-pub struct Manner {
-    pub coding: Coding,
-    /// 0 to 3, or none.
-    pub class: Option<u8>,
-    /// The charset of the text.
-    pub charset: Charset,
-    /// The user data header (GSM 03.40 9.2.3.24), empty or well-formed, of at most 60 octets.
-    pub udh: Octets,
-}
-
-/// Reads `coding`, `mclass`, `charset` and `udh`.
+/// Reads `coding`, `mclass`, `charset` and `udh` into a message.
 #[tactic(auto, unfolding(crate::specs::Form::manner_of))]
-pub(crate) fn read_manner(alloc: Global, pairs: &[Pair]) -> Result<Manner, Answer>
-    ensures ok { IfOk result (λ manner. manner_of pairs.now ≡ Ok manner) }
-    ensures err { IfErr result (λ answer. (answer ≡ Answer.OutOfMemory) ⊎ (manner_of pairs.now ≡ Err answer)) }
+pub(crate) fn set_manner(alloc: Global, pairs: &[Pair], sms: &mut Sms) -> Result<(), Answer>
+    ensures ok { OnOk result (form.manner_of pairs.now sms.old ≡ Ok sms.new) }
+    ensures err { RefusesAs (form.manner_of pairs.now sms.old) result }
 {
-    let udh = value(pairs, b"udh");
-    let Some(coding) = coding_of(value(pairs, b"coding"), udh) else {
-        return Err(Answer::BadRequest(Spot::Coding));
-    };
-    let Some(class) = class_of(value(pairs, b"mclass")) else {
-        return Err(Answer::BadRequest(Spot::Mclass));
-    };
-    let Some(charset) = charset_of(coding, value(pairs, b"charset")) else {
+    let udh = value_of(pairs, Spot::Udh);
+    sms.coding = coding_by(number_given(pairs, Spot::Coding, 0, 2)?, udh);
+    sms.class = class_of(number_given(pairs, Spot::Mclass, 0, u64::from(LAST_CLASS))?);
+    let Some(charset) = charset_of(sms.coding, value_of(pairs, Spot::Charset)) else {
         return Err(Answer::BadRequest(Spot::Charset));
     };
     if !is_udh(udh) {
         return Err(Answer::BadRequest(Spot::Udh));
     }
-    let udh = Octets::from_slice(alloc, udh)?;
-    Ok(Manner {
-        coding,
-        class,
-        charset,
-        udh,
-    })
+    sms.charset = charset;
+    sms.udh = Octets::from_slice(alloc, udh)?;
+    Ok(())
 }
 
-// The coding by its number.
-fn coding_by(number: u64) -> Coding
-    ensures { result ≡ spec.coding_by number }
+// The coding by its number; without one by whether there is a header.
+fn coding_by(number: Option<u32>, udh: &[u8]) -> Coding
+    ensures { result ≡ spec.coding_by number udh.now }
 {
     match number {
-        0 => Coding::Seven,
-        1 => Coding::Eight,
-        _ => Coding::Ucs2,
+        Some(0) => Coding::Seven,
+        Some(1) => Coding::Eight,
+        Some(_) => Coding::Ucs2,
+        None if udh.is_empty() => Coding::Seven,
+        None => Coding::Eight,
     }
 }
 
-fn coding_of(value: &[u8], udh: &[u8]) -> Option<Coding>
-    ensures { result ≡ spec.coding_of value.now udh.now }
+// The class of a number of the table.
+fn class_of(number: Option<u32>) -> Option<u8>
+    requires { IfSome number (λ n. n ≤ 3) }
+    ensures { result ≡ number }
 {
-    if !value.is_empty() {
-        let is_coding = holds(Grammar::Number { least: 0, most: 2 }, value);
-        return is_coding.then_some(coding_by(number_of(value)));
+    match number {
+        Some(number) => Some(number as u8),
+        None => None,
     }
-    if udh.is_empty() {
-        Some(Coding::Seven)
-    } else {
-        Some(Coding::Eight)
-    }
-}
-
-fn class_of(value: &[u8]) -> Option<Option<u8>>
-    ensures { result ≡ spec.class_of value.now }
-{
-    if value.is_empty() {
-        return Some(None);
-    }
-    if !holds(Grammar::Number { least: 0, most: 3 }, value) {
-        return None;
-    }
-    Some(Some(number_of(value) as u8))
 }
 
 // The charset of a text that names none.

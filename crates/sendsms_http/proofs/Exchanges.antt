@@ -44,7 +44,7 @@ among_more (time ∷ times) (first ∷ readings) more reading (inr later) m = in
 -- ---- pieces in turn
 
 -- where something stands in two lists, one behind the other, it stands in the first or in the second
-split_at : {A : Type 0} (xs ys before after : List A) (x : A) → xs ++ ys ≡ before ++ x ∷ after
+pub split_at : {A : Type 0} (xs ys before after : List A) (x : A) → xs ++ ys ≡ before ++ x ∷ after
     → ((rest : List A) × (xs ≡ before ++ x ∷ rest)) ⊎ ((front : List A) × (before ≡ xs ++ front) × (ys ≡ front ++ x ∷ after))
 split_at [] ys before after x e = inr (before, refl, e)
 split_at (y ∷ xs) ys [] after x e = inl (xs, cc)

@@ -1,7 +1,8 @@
 pub mod Doings
 pub mod Endings
+pub mod Events
 pub mod Exchanges
-pub mod Falling
-pub mod Looking
+pub mod Heads
 pub mod SessionLemmas
+pub mod Termination
 pub mod Wishes

@@ -1,23 +1,25 @@
 -- What is so once the visit wishes something, by what it was given.
-use Rattle.std.proofs.Common.{◌≡◌, ◌≢◌, inl, inr, ℕ, ◌+◌, ◌≤◌, Bool, true, false, ◌||◌, List, [], ◌∷◌, ◌++◌, length, Option, Result, Ok, IfOk, refl, ap, sym, ◌∙◌, subst, arith}
+use Rattle.std.proofs.Common.{◌≡◌, ◌≢◌, inl, inr, ℕ, ◌+◌, ◌≤◌, Bool, true, false, ◌||◌, List, [], ◌∷◌, ◌++◌, length, All, Option, Result, Ok, IfOk, refl, ap, sym, ◌∙◌, subst, arith}
 use Rattle.std.proofs.lemmas.Bool.{false≢true}
 use Rattle.std.proofs.lemmas.List.{append-nil}
+use Rattle.std.proofs.lemmas.List.Elements.{All-nil, All-cons}
 use Rattle.config_groups.specs.declared.settings.Settings.{Settings}
 use Rattle.gate_model.specs.Acceptor.{Deed}
 use Rattle.gate_model.specs.Reply.{IsAccepted}
 use Rattle.gate_model.specs.declared.reply.Reply.{Reply}
 use Rattle.gate_model.specs.declared.reply.Refusal.{Refusal}
-use Rattle.gate_model.specs.declared.reply.Refusal.TheVariants as refusal_is
 use Rattle.http_text.specs.Answer.{reply_text}
 use Rattle.http_text.specs.Head.{NeedsMore}
 use Rattle.http_text.specs.declared.answer.Answer.{Answer}
 use Rattle.http_text.specs.declared.head.Head.{Head}
 use Rattle.kn_base.specs.Clock.{Adds}
 use Rattle.kn_base.specs.Course.{Course}
-use Rattle.kn_base.specs.Talk.{SaysAll, SaysFront}
+use Rattle.kn_base.specs.Talk.{said_of, SaysAll, SaysFront}
 use Rattle.sms_record.specs.declared.sms.Sms.{Sms}
 use Rattle.sendsms_http.specs.Reply.{answer_of}
 use Rattle.sendsms_http.specs.Request.{asked}
+use Rattle.kn_base.specs.declared.piece.Piece.{Piece}
+use Rattle.sendsms_http.specs.Events.{Event, Read, IsReadAt, IsInTurn}
 use Rattle.sendsms_http.specs.Session.{Exchange, text_of, AnswersRequest, IsExchange, IsKept, ComesTo, closes_always, times_in, deeds_in, AreAmong, Serves}
 use Rattle.sendsms_http.specs.SessionSteps.{IsEndOf, Stands, Has, Waits, Answers, Says, Decides, Due, Wished}
 use Rattle.sendsms_http.specs.Visit.{IsVisit, FitsPhase, given_octets, Fits, IsNext, Owes, LooksAt, IsAtEnd, IsSaid, IsAnswered, answered, Wishes}
@@ -30,9 +32,10 @@ use Rattle.sendsms_http.specs.declared.visit.VisitGiven.{VisitGiven}
 use Rattle.sendsms_http.specs.declared.visit.VisitGiven.TheVariants as given_is
 use Rattle.sendsms_http.specs.declared.visit.VisitWish.{VisitWish}
 use Rattle.sendsms_http.specs.declared.visit.VisitWish.TheVariants.{Listen, Submit, Say, Over}
+use Rattle.sendsms_http.proofs.Events.{spoken, read_at_more, turn_read, read_now, turn_said, turn_last}
 use Rattle.sendsms_http.proofs.Exchanges.{times_last, deeds_last}
 use Rattle.sendsms_http.proofs.SessionLemmas.{stands_said, has_read, has_passed}
-use Rattle.sendsms_http.proofs.Endings.{none_rose, none_fell, serves_silent, serves_closed, serves_cut, serves_failed, serves_quiet}
+use Rattle.sendsms_http.proofs.Endings.{Finishes, none_rose, none_fell, serves_silent, serves_closed, serves_cut, serves_failed, serves_quiet}
 
 -- the end of a session that came to one that is no fault
 same_end : (end result : HttpEnd) (before now : ℕ) → end ≢ end_is.Fault → IsEndOf end before now result → result ≡ end
@@ -53,24 +56,30 @@ decided front head time parts outcome = record {
 }
 
 module _ {S : Type 0} (leads : S → List Deed → S → Type 0) (faults : S → ℕ) (can_submit : S → Type 0) (settings : Settings) (store : S) (start : Course) (told : Option (List ℕ)) where
-  abbrev Standing : List Exchange → List ℕ → ℕ → Bool → Course → Type 0
+  abbrev Standing : List Piece → List Exchange → List ℕ → ℕ → Bool → Course → Type 0
   Standing = Stands leads faults can_submit settings store start told
 
-  abbrev Having : List ℕ → List Deed → Option (List ℕ) → S → Type 0
+  abbrev Having : List ℕ → List ℕ → List Deed → Option (List ℕ) → S → Type 0
   Having = Has leads faults can_submit settings store start told
 
   abbrev WishedHere : ℕ → VisitWish → Visit → Course → Option (List ℕ) → S → Type 0
   WishedHere = Wished leads faults can_submit settings store start told
 
   -- an answer is owed without the store
-  owes : (kept : List Exchange) (octets : List ℕ) (now : ℕ) (visit : Visit) (answer : Answer) (close ended : Bool) (b : Course) (tells tells_now : Option (List ℕ)) (later : S)
-      → Standing kept octets visit.taken ended b → Having (times_in kept) (deeds_in kept) tells later → can_submit later → Adds now tells tells_now
+  owes : (octets : List ℕ) (now : ℕ) (visit : Visit) (answer : Answer) (close ended : Bool) (b : Course) (tells tells_now : Option (List ℕ)) (later : S)
+      → Waits leads faults can_submit settings store start told octets visit.taken ended b tells later → Adds now tells tells_now
       → Owes settings ended now octets visit answer close → (close ≡ false → ended ≡ false)
       → Answers leads faults can_submit settings store start told visit.kept visit.taken b tells_now later answer close
-  owes kept octets now visit answer close ended b tells tells_now later s h ready adds o open_yet =
+  owes octets now visit answer close ended b tells tells_now later w adds o open_yet =
       let e = o.exchange in
-      let read = has_read leads faults can_submit settings store start told (times_in kept) e.times (deeds_in kept) tells tells_now later now h adds o.timed in
+      let kept = w.kept in
+      let readings = w.readings ++ now ∷ [] in
+      let events = w.events ++ Read now ∷ [] in
+      let read = has_read leads faults can_submit settings store start told w.readings (times_in kept) e.times (deeds_in kept) tells tells_now later now w.has adds o.timed in
       let deeds : deeds_in kept ≡ deeds_in (kept ++ e ∷ []) = sym (deeds_last kept e ∙ ap (λ more. deeds_in kept ++ more) o.no_deed ∙ append-nil (deeds_in kept)) in
+      let stands = subst (λ left. Standing w.pieces kept left visit.taken ended b) o.cut w.stands in
+      let turn = turn_read settings w.events w.pieces w.readings (deeds_in kept) kept w.turn now in
+      let at = read_now settings w.events w.pieces w.readings (deeds_in kept) kept w.turn now e.octets visit.kept stands.heard stands.said refl in
       record {
         kept = kept;
         ended = ended;
@@ -78,22 +87,40 @@ module _ {S : Type 0} (leads : S → List Deed → S → Type 0) (faults : S →
         exchanged = o.exchanged;
         answered = o.answers;
         closes = o.closes;
-        stands = subst (λ left. Standing kept left visit.taken ended b) o.cut s;
-        has = subst (λ deeds. Having (times_in (kept ++ e ∷ [])) deeds tells_now later) deeds
-            (subst (λ times. Having times (deeds_in kept) tells_now later) (sym (times_last kept e)) read);
+        events = events;
+        pieces = w.pieces;
+        readings = readings;
+        stands = stands;
+        has = subst (λ deeds. Having readings (times_in (kept ++ e ∷ [])) deeds tells_now later) deeds
+            (subst (λ times. Having readings times (deeds_in kept) tells_now later) (sym (times_last kept e)) read);
+        turn = turn_last settings events w.pieces readings (deeds_in (kept ++ e ∷ [])) kept
+            (subst (λ deeds. IsInTurn settings events w.pieces readings deeds kept) deeds turn) e
+            (times_now e.times (IsReadAt events kept e.octets) o.timed at);
         open_yet = open_yet;
-        ready = ready;
+        ready = w.ready;
       }
+    where
+      -- the times of an exchange are this reading, or none
+      times_now : (times : List ℕ) (P : ℕ → Type 0) → AreAmong times (now ∷ []) → P now → All P times
+      times_now [] P among p = All-nil P
+      times_now (time ∷ times) P (inl same) p =
+          All-cons P time times (subst P (sym same.0) p) (subst (All P) (sym (none_more times same.1)) (All-nil P))
+        where
+          none_more : (times : List ℕ) → AreAmong times [] → times ≡ []
+          none_more [] among = refl
+          none_more (time ∷ times) among = absurd among
+      times_now (time ∷ times) P (inr later) p = absurd later
 
   -- the budget is spent
-  spent : (kept : List Exchange) (left : List ℕ) (taken budget : ℕ) (b : Course) (tells : Option (List ℕ)) (later : S) (end result : HttpEnd)
-      → Standing kept left taken false b → Having (times_in kept) (deeds_in kept) tells later → NeedsMore left → taken ≡ budget → end ≡ end_is.Budget budget
+  spent : (events : List Event) (pieces : List Piece) (readings : List ℕ) (kept : List Exchange) (left : List ℕ) (taken budget : ℕ) (b : Course) (tells : Option (List ℕ)) (later : S) (end result : HttpEnd)
+      → Standing pieces kept left taken false b → Having readings (times_in kept) (deeds_in kept) tells later
+      → IsInTurn settings events pieces readings (deeds_in kept) kept → NeedsMore left → taken ≡ budget → end ≡ end_is.Budget budget
       → IsEndOf end start.counts.starved b.counts.starved result → Serves leads faults store later settings budget start b told tells result
-  spent kept left taken budget b tells later end result s h more all is so =
+  spent events pieces readings kept left taken budget b tells later end result s h turn more all is so =
       let same = same_end (end_is.Budget budget) result start.counts.starved b.counts.starved (λ e. cc)
       (subst (λ end. IsEndOf end start.counts.starved b.counts.starved result) is so) in
       subst (λ end. Serves leads faults store later settings budget start b told tells end) (sym same)
-      (serves_silent leads faults can_submit settings store start told kept left taken budget false b b tells later (end_is.Budget budget) s h (more, refl) (omega (arith, all))
+      (serves_silent leads faults can_submit settings store start told events pieces readings kept left taken budget false b b tells later (end_is.Budget budget) s h turn (more, refl) (omega (arith, all))
       (refl, all) refl refl (none_fell b.counts b.counts refl) (none_rose start.counts b.counts false s.counts))
 
   -- octets were looked at
@@ -102,13 +129,21 @@ module _ {S : Type 0} (leads : S → List Deed → S → Type 0) (faults : S →
       → LooksAt settings now octets visit wish → visit.budget ≡ budget → WishedHere budget wish visit b tells_now later
   from_looks octets budget now visit Listen b tells tells_now later w adds looks most = record {
     kept = w.kept;
-    stands = subst (λ left. Standing w.kept left visit.taken false b) (sym looks) w.stands;
-    has = has_passed leads faults can_submit settings store start told (times_in w.kept) (deeds_in w.kept) tells tells_now later now w.has adds;
+    events = w.events ++ Read now ∷ [];
+    pieces = w.pieces;
+    readings = w.readings ++ now ∷ [];
+    stands = subst (λ left. Standing w.pieces w.kept left visit.taken false b) (sym looks) w.stands;
+    has = has_passed leads faults can_submit settings store start told w.readings (times_in w.kept) (deeds_in w.kept) tells tells_now later now w.has adds;
+    turn = turn_read settings w.events w.pieces w.readings (deeds_in w.kept) w.kept w.turn now;
     ready = w.ready;
   }
   from_looks octets budget now visit (Submit time parts) b tells tells_now later w adds looks most =
       let among : AreAmong (time ∷ []) (now ∷ []) = inl (looks.read_at, tt) in
-      let read = has_read leads faults can_submit settings store start told (times_in w.kept) (time ∷ []) (deeds_in w.kept) tells tells_now later now w.has adds among in (
+      let readings = w.readings ++ now ∷ [] in
+      let events = w.events ++ Read now ∷ [] in
+      let read = has_read leads faults can_submit settings store start told w.readings (times_in w.kept) (time ∷ []) (deeds_in w.kept) tells tells_now later now w.has adds among in
+      let stands = subst (λ left. Standing w.pieces w.kept left visit.taken false b) looks.cut w.stands in
+      let at = read_now settings w.events w.pieces w.readings (deeds_in w.kept) w.kept w.turn now looks.front visit.kept stands.heard stands.said refl in (
         record {
           kept = w.kept;
           front = looks.front;
@@ -116,17 +151,25 @@ module _ {S : Type 0} (leads : S → List Deed → S → Type 0) (faults : S →
           heard = looks.heard;
           asks = subst (λ at. asked settings looks.head at ≡ Ok parts.items) (sym looks.read_at) looks.asks;
           in_phase = looks.phase;
-          stands = subst (λ left. Standing w.kept left visit.taken false b) looks.cut w.stands;
-          has = subst (λ deeds. Having (times_in w.kept ++ time ∷ []) deeds tells_now later) (sym (append-nil (deeds_in w.kept))) read;
+          events = events;
+          pieces = w.pieces;
+          readings = readings;
+          stands = stands;
+          has = subst (λ deeds. Having readings (times_in w.kept ++ time ∷ []) deeds tells_now later) (sym (append-nil (deeds_in w.kept))) read;
+          turn = subst (λ deeds. IsInTurn settings events w.pieces readings deeds w.kept) (sym (append-nil (deeds_in w.kept)))
+              (turn_read settings w.events w.pieces w.readings (deeds_in w.kept) w.kept w.turn now);
+          read_at = subst (IsReadAt events w.kept looks.front) (sym looks.read_at) at;
         },
         looks.fits,
         w.ready,
       )
   from_looks octets budget now visit (Say answer close) b tells tells_now later w adds looks most =
-      owes w.kept octets now visit answer close false b tells tells_now later w.stands w.has w.ready adds looks (λ open_yet. refl)
+      owes octets now visit answer close false b tells tells_now later w adds looks (λ open_yet. refl)
   from_looks octets budget now visit (Over end) b tells tells_now later w adds looks most = λ result so.
-      let has = has_passed leads faults can_submit settings store start told (times_in w.kept) (deeds_in w.kept) tells tells_now later now w.has adds in
-      spent w.kept octets visit.taken budget b tells_now later end result w.stands has looks.1 (looks.2 ∙ most) (looks.3 ∙ ap (λ n. end_is.Budget n) (looks.2 ∙ most)) so
+      let has = has_passed leads faults can_submit settings store start told w.readings (times_in w.kept) (deeds_in w.kept) tells tells_now later now w.has adds in
+      let turn = turn_read settings w.events w.pieces w.readings (deeds_in w.kept) w.kept w.turn now in
+      spent (w.events ++ Read now ∷ []) w.pieces (w.readings ++ now ∷ []) w.kept octets visit.taken budget b tells_now later end result w.stands has turn looks.1 (looks.2 ∙ most)
+      (looks.3 ∙ ap (λ n. end_is.Budget n) (looks.2 ∙ most)) so
 
   -- the input ended
   from_end : (left : List ℕ) (budget now : ℕ) (visit : Visit) (wish : VisitWish) (b : Course) (tells tells_now : Option (List ℕ)) (later : S)
@@ -135,15 +178,22 @@ module _ {S : Type 0} (leads : S → List Deed → S → Type 0) (faults : S →
   from_end [] budget now visit wish b tells tells_now later w adds ends within =
       subst (λ wish. WishedHere budget wish visit b tells_now later) (sym ends.0) (λ result so.
       let same = same_end end_is.End result start.counts.starved b.counts.starved (λ e. cc) so in
-      let has = has_passed leads faults can_submit settings store start told (times_in w.kept) (deeds_in w.kept) tells tells_now later now w.has adds in
+      let has = has_passed leads faults can_submit settings store start told w.readings (times_in w.kept) (deeds_in w.kept) tells tells_now later now w.has adds in
+      let turn = turn_read settings w.events w.pieces w.readings (deeds_in w.kept) w.kept w.turn now in
       subst (λ end. Serves leads faults store later settings budget start b told tells_now end) (sym same)
-      (serves_silent leads faults can_submit settings store start told w.kept [] visit.taken budget true b b tells_now later end_is.End w.stands has (refl, refl) within
+      (serves_silent leads faults can_submit settings store start told (w.events ++ Read now ∷ []) w.pieces (w.readings ++ now ∷ []) w.kept [] visit.taken budget true b b tells_now later
+      end_is.End w.stands has turn (refl, refl) within
       tt refl refl (none_fell b.counts b.counts refl) (none_rose start.counts b.counts true w.stands.counts)))
   from_end (octet ∷ octets) budget now visit Listen b tells tells_now later w adds ends within = absurd ends
   from_end (octet ∷ octets) budget now visit (Submit time parts) b tells tells_now later w adds ends within = absurd ends
   from_end (octet ∷ octets) budget now visit (Say answer close) b tells tells_now later w adds ends within =
-      owes w.kept (octet ∷ octets) now visit answer close true b tells tells_now later w.stands w.has w.ready adds ends.0 (λ open_yet. absurd (false≢true (sym open_yet ∙ ends.1)))
+      owes (octet ∷ octets) now visit answer close true b tells tells_now later w adds ends.0 (λ open_yet. absurd (false≢true (sym open_yet ∙ ends.1)))
   from_end (octet ∷ octets) budget now visit (Over end) b tells tells_now later w adds ends within = absurd ends
+
+  -- the clock is read once more
+  reads : (readings : List ℕ) (deeds : List Deed) (exchanges : List Exchange) (now : ℕ)
+      → Finishes leads faults can_submit settings store start told readings (readings ++ now ∷ []) deeds exchanges
+  reads readings deeds exchanges now = λ events pieces turn. (events ++ Read now ∷ [], turn_read settings events pieces readings deeds exchanges turn now)
 
   -- an answer was said whole
   from_said : (old visit : Visit) (budget now : ℕ) (wish : VisitWish) (b : Course) (tells tells_now : Option (List ℕ)) (later : S)
@@ -157,23 +207,31 @@ module _ {S : Type 0} (leads : S → List Deed → S → Type 0) (faults : S →
       by true a is said =
           let e = a.exchange in
           let text : reply_text says.answer true ≡ text_of e = (λ i. reply_text (sym a.answered i) (sym a.closes i)) in
-          let has = has_passed leads faults can_submit settings store start told (times_in (a.kept ++ e ∷ [])) (deeds_in (a.kept ++ e ∷ [])) tells tells_now later now a.has adds in
+          let has = has_passed leads faults can_submit settings store start told a.readings (times_in (a.kept ++ e ∷ [])) (deeds_in (a.kept ++ e ∷ [])) tells tells_now later now a.has adds in
           subst (λ wish. WishedHere budget wish visit b tells_now later) (sym is) (λ result so.
           let end = same_end end_is.End result start.counts.starved b.counts.starved (λ e. cc) so in
           subst (λ end. Serves leads faults store later settings budget start b told tells_now end) (sym end)
-          (serves_closed leads faults can_submit settings store start told a.kept e old.kept old.taken budget a.ended says.before b tells_now later a.stands a.exchanged has a.closes
+          (serves_closed leads faults can_submit settings store start told a.events a.pieces a.readings (a.readings ++ now ∷ []) a.kept e old.kept old.taken budget a.ended says.before b tells_now later
+          a.stands a.exchanged has a.turn (reads a.readings (deeds_in (a.kept ++ e ∷ [])) (a.kept ++ e ∷ []) now) a.closes
           (subst (λ n. n ≤ budget) same within) (subst (λ octets. SaysAll octets says.before b) text said)))
       by false a is said =
           let e = a.exchange in
           let text : reply_text says.answer false ≡ text_of e = (λ i. reply_text (sym a.answered i) (sym a.closes i)) in
-          let stands = stands_said leads faults can_submit settings store start told a.kept e old.kept old.taken a.ended says.before b a.stands (kept_open e a.ended a.exchanged a.closes)
-          (subst (λ octets. SaysAll octets says.before b) text said) in
+          let all = subst (λ octets. SaysAll octets says.before b) text said in
+          let s = a.stands in
+          let stands = stands_said leads faults can_submit settings store start told a.pieces a.kept e old.kept old.taken a.ended says.before b s (kept_open e a.ended a.exchanged a.closes) all in
+          let turn = turn_said settings a.events a.pieces a.readings (deeds_in (a.kept ++ e ∷ [])) (a.kept ++ e ∷ []) a.turn a.kept e a.ended old.kept [] all.pieces s.kept_each
+          a.exchanged s.heard s.said refl all.nothing_heard (sym (append-nil (said_of all.pieces) ∙ all.said)) in
           from_looks old.kept budget now visit wish b tells tells_now later
           (record {
             kept = a.kept ++ e ∷ [];
-            stands = subst (λ n. Standing (a.kept ++ e ∷ []) old.kept n false b) (sym same)
-                (subst (λ ended. Standing (a.kept ++ e ∷ []) old.kept old.taken ended b) (a.open_yet refl) stands);
+            events = a.events ++ spoken all.pieces;
+            pieces = a.pieces ++ all.pieces;
+            readings = a.readings;
+            stands = subst (λ n. Standing (a.pieces ++ all.pieces) (a.kept ++ e ∷ []) old.kept n false b) (sym same)
+                (subst (λ ended. Standing (a.pieces ++ all.pieces) (a.kept ++ e ∷ []) old.kept old.taken ended b) (a.open_yet refl) stands);
             has = a.has;
+            turn = turn;
             ready = a.ready;
           }) adds is most
         where
@@ -189,8 +247,9 @@ module _ {S : Type 0} (leads : S → List Deed → S → Type 0) (faults : S →
       let a = says.answers in
       let e = a.exchange in
       let text : reply_text says.answer says.close ≡ text_of e = (λ i. reply_text (sym a.answered i) (sym a.closes i)) in
-      let has = has_passed leads faults can_submit settings store start told (times_in (a.kept ++ e ∷ [])) (deeds_in (a.kept ++ e ∷ [])) tells tells_now later now a.has adds in
-      serves_cut leads faults can_submit settings store start told a.kept e old.kept old.taken budget a.ended says.before b tells_now later result says.said.0 a.stands a.exchanged has within
+      let has = has_passed leads faults can_submit settings store start told a.readings (times_in (a.kept ++ e ∷ [])) (deeds_in (a.kept ++ e ∷ [])) tells tells_now later now a.has adds in
+      serves_cut leads faults can_submit settings store start told a.events a.pieces a.readings (a.readings ++ now ∷ []) a.kept e old.kept old.taken budget a.ended says.before b tells_now later result says.said.0
+      a.stands a.exchanged has a.turn (reads a.readings (deeds_in (a.kept ++ e ∷ [])) (a.kept ++ e ∷ []) now) within
       (subst (λ octets. SaysFront octets says.said.0 says.before b) text says.said.1) so
 
   -- the store answered
@@ -213,7 +272,12 @@ module _ {S : Type 0} (leads : S → List Deed → S → Type 0) (faults : S →
       } in
       let times : times_in h.kept ++ d.time ∷ [] ≡ times_in (h.kept ++ e ∷ []) = sym (times_last h.kept e) in
       let deeds : deeds_in h.kept ++ e.deeds ≡ deeds_in (h.kept ++ e ∷ []) = sym (deeds_last h.kept e) in
-      let has = has_passed leads faults can_submit settings store start told (times_in h.kept ++ d.time ∷ []) (deeds_in h.kept ++ e.deeds) tells tells_now later now h.has adds in
+      let has = has_passed leads faults can_submit settings store start told h.readings (times_in h.kept ++ d.time ∷ []) (deeds_in h.kept ++ e.deeds) tells tells_now later now h.has adds in
+      let readings = h.readings ++ now ∷ [] in
+      let events = h.events ++ Read now ∷ [] in
+      let turn = turn_last settings events h.pieces readings (deeds_in h.kept ++ e.deeds) h.kept
+      (turn_read settings h.events h.pieces h.readings (deeds_in h.kept ++ e.deeds) h.kept h.turn now) e
+      (All-cons (IsReadAt events h.kept h.front) d.time [] (read_at_more h.events (Read now ∷ []) h.kept h.front d.time h.read_at) (All-nil (IsReadAt events h.kept h.front))) in
       subst (λ wish. WishedHere budget wish visit b tells_now later) (sym says) (record {
         kept = h.kept;
         ended = false;
@@ -221,10 +285,14 @@ module _ {S : Type 0} (leads : S → List Deed → S → Type 0) (faults : S →
         exchanged = inl request;
         answered = refl;
         closes = refl;
-        stands = subst (λ n. Standing h.kept (h.front ++ visit.kept) n false b) (sym same)
-            (subst (λ left. Standing h.kept (h.front ++ left) old.taken false b) (sym kept) h.stands);
-        has = subst (λ deeds. Having (times_in (h.kept ++ e ∷ [])) deeds tells_now later) deeds
-            (subst (λ times. Having times (deeds_in h.kept ++ e.deeds) tells_now later) times has);
+        events = events;
+        pieces = h.pieces;
+        readings = readings;
+        stands = subst (λ n. Standing h.pieces h.kept (h.front ++ visit.kept) n false b) (sym same)
+            (subst (λ left. Standing h.pieces h.kept (h.front ++ left) old.taken false b) (sym kept) h.stands);
+        has = subst (λ deeds. Having readings (times_in (h.kept ++ e ∷ [])) deeds tells_now later) deeds
+            (subst (λ times. Having readings times (deeds_in h.kept ++ e.deeds) tells_now later) times has);
+        turn = subst (λ deeds. IsInTurn settings events h.pieces readings deeds (h.kept ++ e ∷ [])) deeds turn;
         open_yet = λ open_yet. refl;
         ready = d.ready;
       })
@@ -247,9 +315,10 @@ module _ {S : Type 0} (leads : S → List Deed → S → Type 0) (faults : S →
       subst (λ wish. WishedHere budget wish visit b tells_now later) (sym wishes) (λ result so.
       let w = due.waits in
       let end = same_end end_is.Quiet result start.counts.starved b.counts.starved (λ e. cc) so in
-      let has = has_passed leads faults can_submit settings store start told (times_in w.kept) (deeds_in w.kept) tells tells_now later now w.has adds in
+      let has = has_passed leads faults can_submit settings store start told w.readings (times_in w.kept) (deeds_in w.kept) tells tells_now later now w.has adds in
+      let turn = turn_read settings w.events w.pieces w.readings (deeds_in w.kept) w.kept w.turn now in
       subst (λ end. Serves leads faults store later settings budget start b told tells_now end) (sym end)
-      (serves_quiet leads faults can_submit settings store start told old.kept old.taken budget b tells_now later w.kept due.before w.stands has due.more due.stopped (omega (arith, same, within))))
+      (serves_quiet leads faults can_submit settings store start told (w.events ++ Read now ∷ []) w.pieces (w.readings ++ now ∷ []) old.kept old.taken budget b tells_now later w.kept due.before w.stands has turn due.more due.stopped (omega (arith, same, within))))
   wished given_is.End old visit budget now wish b tells tells_now later due fits adds wishes same most within =
       from_end old.kept budget now visit wish b tells tells_now later
       (subst (λ n. Waits leads faults can_submit settings store start told old.kept n true b tells later) (plain same) due.0) adds wishes within
@@ -259,8 +328,9 @@ module _ {S : Type 0} (leads : S → List Deed → S → Type 0) (faults : S →
   wished given_is.Fault old visit budget now wish b tells tells_now later due fits adds wishes same most within =
       subst (λ wish. WishedHere budget wish visit b tells_now later) (sym wishes) (λ result so.
       let w = due.waits in
-      let has = has_passed leads faults can_submit settings store start told (times_in w.kept) (deeds_in w.kept) tells tells_now later now w.has adds in
-      serves_failed leads faults can_submit settings store start told old.kept old.taken budget b tells_now later result w.kept due.before w.stands has due.more due.stopped (omega (arith, same, within)) so)
+      let has = has_passed leads faults can_submit settings store start told w.readings (times_in w.kept) (deeds_in w.kept) tells tells_now later now w.has adds in
+      let turn = turn_read settings w.events w.pieces w.readings (deeds_in w.kept) w.kept w.turn now in
+      serves_failed leads faults can_submit settings store start told (w.events ++ Read now ∷ []) w.pieces (w.readings ++ now ∷ []) old.kept old.taken budget b tells_now later result w.kept due.before w.stands has turn due.more due.stopped (omega (arith, same, within)) so)
   wished given_is.Said old visit budget now wish b tells tells_now later due fits adds wishes same most within =
       from_said old visit budget now wish b tells tells_now later due adds wishes (omega (arith, same)) most within
   wished given_is.SayFault old visit budget now wish b tells tells_now later due fits adds wishes same most within =

@@ -1,3 +1,5 @@
+pub mod Events
+pub mod Exchange
 pub mod Reply
 pub mod Request
 pub mod Session

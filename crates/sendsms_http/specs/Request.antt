@@ -1,5 +1,5 @@
 -- What a request asks: the parts of a message, or the answer that refuses it.
-use Rattle.std.specs.Prelude.{ℕ, not, if◌then◌else◌, bytes_eq, List, [], Option, Some, None, Result, Ok, Err}
+use Rattle.std.specs.Prelude.{ℕ, not, if◌then◌else◌, bytes_eq, List, Option, Some, None, Result, Ok, Err}
 use Rattle.config_groups.specs.declared.settings.Settings.{Settings}
 use Rattle.config_groups.specs.declared.settings.user.User.{User}
 use Rattle.sms_record.specs.declared.sms.Sms.{Sms}
@@ -11,7 +11,7 @@ use Rattle.sendsms_form.specs.declared.form.Form.{Form}
 use Rattle.sendsms_form.specs.declared.pairs.Pair.{Pair}
 use Rattle.sendsms_form.specs.Form.{form_of}
 use Rattle.sendsms_form.specs.Pairs.{pairs}
-use Rattle.sendsms_parts.specs.Messages.{messages_of}
+use Rattle.sendsms_form.specs.Messages.{messages_of}
 use Rattle.sms_record.specs.declared.address.Address.{Address}
 use Rattle.sendsms_http.specs.Target.{is_path, path_of, query_of}
 use Rattle.sendsms_http.specs.Users.{user_of}

@@ -4,7 +4,6 @@ use Rattle.config_groups.specs.declared.settings.Settings.{Settings}
 use Rattle.gate_model.specs.Acceptor.{Deed, CountsFaults, MayBeHanded}
 use Rattle.gate_model.specs.declared.reply.Reply.{Reply}
 use Rattle.gate_model.specs.declared.reply.Refusal.{Refusal}
-use Rattle.gate_model.specs.declared.reply.Refusal.TheVariants as refusal_is
 use Rattle.http_text.specs.Answer.{reply_text}
 use Rattle.http_text.specs.Head.{NeedsMore}
 use Rattle.http_text.specs.OneHead.{IsHead}
@@ -19,6 +18,7 @@ use Rattle.kn_base.specs.declared.memory.Memory.{Memory}
 use Rattle.kn_base.specs.declared.piece.Piece.{Piece}
 use Rattle.kn_base.specs.declared.piece.Piece.TheVariants as piece_is
 use Rattle.sms_record.specs.declared.sms.Sms.{Sms}
+use Rattle.sendsms_http.specs.Events.{Event, IsReadAt, IsInTurn, AreOwn}
 use Rattle.sendsms_http.specs.Request.{asked}
 use Rattle.sendsms_http.specs.Session.{Exchange, IsExchange, IsKept, heard_in, said_in, times_in, deeds_in, AreAmong, IsPrompt, Serves}
 use Rattle.sendsms_http.specs.Visit.{given_octets}
@@ -72,8 +72,7 @@ module _
     {S : Type 0} (leads : S → List Deed → S → Type 0) (faults : S → ℕ) (can_submit : S → Type 0) (settings : Settings)
     (store : S) (start : Course) (told : Option (List ℕ)) where
   -- What was heard and said: these exchanges, each answered whole, and octets that are left, so many in all.
-  pub record Stands (kept : List Exchange) (left : List ℕ) (taken : ℕ) (ended : Bool) (now : Course) : Type 0 where
-    pub pieces : List Piece
+  pub record Stands (pieces : List Piece) (kept : List Exchange) (left : List ℕ) (taken : ℕ) (ended : Bool) (now : Course) : Type 0 where
     pub kept_each : All (IsKept settings) kept
     pub heard : heard_of pieces ≡ heard_in kept ++ left
     pub said : said_of pieces ≡ said_in kept
@@ -83,18 +82,22 @@ module _
     pub counts : now.counts ≡ record (start.counts) { ended = ended || start.counts.ended }
 
   -- What was read of the clock, among it these times, and what was handed in.
-  pub record Has (times : List ℕ) (deeds : List Deed) (tells : Option (List ℕ)) (later : S) : Type 0 where
-    pub readings : List ℕ
+  pub record Has (readings times : List ℕ) (deeds : List Deed) (tells : Option (List ℕ)) (later : S) : Type 0 where
     pub timed : AreAmong times readings
     pub clock : AddsAll readings told tells
     pub led : leads store deeds later
+    pub own : AreOwn leads faults store later deeds
     pub counts : CountsFaults (faults store) (faults later) deeds
 
   -- Nothing is owed an answer.
   pub record Waits (left : List ℕ) (taken : ℕ) (ended : Bool) (now : Course) (tells : Option (List ℕ)) (later : S) : Type 0 where
     pub kept : List Exchange
-    pub stands : Stands kept left taken ended now
-    pub has : Has (times_in kept) (deeds_in kept) tells later
+    pub events : List Event
+    pub pieces : List Piece
+    pub readings : List ℕ
+    pub stands : Stands pieces kept left taken ended now
+    pub has : Has readings (times_in kept) (deeds_in kept) tells later
+    pub turn : IsInTurn settings events pieces readings (deeds_in kept) kept
     pub ready : can_submit later
 
   -- The parts that a request asks for are handed in, or are to be.
@@ -106,8 +109,13 @@ module _
     pub heard : IsHead front head
     pub asks : asked settings head time ≡ Ok parts
     pub in_phase : phase ≡ Submitting (head.close || head.body)
-    pub stands : Stands kept (front ++ left) taken false now
-    pub has : Has (times_in kept ++ time ∷ []) (deeds_in kept ++ deeds) tells later
+    pub events : List Event
+    pub pieces : List Piece
+    pub readings : List ℕ
+    pub stands : Stands pieces kept (front ++ left) taken false now
+    pub has : Has readings (times_in kept ++ time ∷ []) (deeds_in kept ++ deeds) tells later
+    pub turn : IsInTurn settings events pieces readings (deeds_in kept ++ deeds) kept
+    pub read_at : IsReadAt events kept front time
 
   -- An answer is owed.
   pub record Answers
@@ -118,8 +126,12 @@ module _
     pub exchanged : IsExchange settings ended exchange
     pub answered : exchange.answer ≡ answer
     pub closes : exchange.close ≡ close
-    pub stands : Stands kept (exchange.octets ++ left) taken ended now
-    pub has : Has (times_in (kept ++ exchange ∷ [])) (deeds_in (kept ++ exchange ∷ [])) tells later
+    pub events : List Event
+    pub pieces : List Piece
+    pub readings : List ℕ
+    pub stands : Stands pieces kept (exchange.octets ++ left) taken ended now
+    pub has : Has readings (times_in (kept ++ exchange ∷ [])) (deeds_in (kept ++ exchange ∷ [])) tells later
+    pub turn : IsInTurn settings events pieces readings (deeds_in (kept ++ exchange ∷ [])) (kept ++ exchange ∷ [])
     pub open_yet : close ≡ false → ended ≡ false
     pub ready : can_submit later
 

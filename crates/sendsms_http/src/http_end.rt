@@ -2,6 +2,8 @@
 
 ghost use Rattle.sendsms_http.specs.SessionSteps.{IsEndOf};
 
+use peer_pieces::has_risen;
+
 /// How a session over HTTP ended.
 #[derive(Clone, Copy)]
 pub enum HttpEnd {
@@ -22,7 +24,7 @@ pub(crate) fn end_of(end: HttpEnd, before: u64, now: u64) -> HttpEnd
     ensures { IsEndOf end before now result }
 {
     match end {
-        HttpEnd::Fault if before < now || now == u64::MAX => HttpEnd::Memory,
+        HttpEnd::Fault if has_risen(before, now) => HttpEnd::Memory,
         end => end,
     }
 }

@@ -11,8 +11,7 @@ use crate::target::{cut_target, is_path};
 use crate::users::user_of;
 use config_groups::{Settings, User};
 use http_text::{Answer, Head, Spot};
-use sendsms_form::{Pair, read_form, read_pairs};
-use sendsms_parts::messages;
+use sendsms_form::{Pair, messages, read_form, read_pairs};
 use sms_record::{Address, Sms};
 use std::alloc::Global;
 

@@ -12,10 +12,8 @@ use config_groups::Settings;
 use gate_model::Acceptor;
 use http_text::{Answer, write_answer};
 use kn_base::{Clock, Memory, Octets, Peer, Sink, Source, Take, Wrote};
+use peer_pieces::PIECE_LIMIT;
 use std::alloc::Global;
-
-// How many octets are taken at once.
-const PIECE_LIMIT: u64 = 4_096;
 
 /// Serves one connection over HTTP: hears requests, hands the messages that they ask for to the store, and answers each, up to the first
 /// answer behind which the connection closes. At most `budget` octets are taken.
@@ -57,8 +55,8 @@ fn hear<S: Source>(alloc: Global, source: &mut S, room: u64) -> Result<VisitGive
     requires { 0 < room }
     ensures { spec.HearsSo room (S.course source.old) result (S.course source.new) }
 {
-    let mut buffer = [0; PIECE_LIMIT as usize];
-    let most = PIECE_LIMIT.min(room) as usize;
+    let mut buffer = [0; PIECE_LIMIT];
+    let most = (PIECE_LIMIT as u64).min(room) as usize;
     match source.take(&mut buffer[..most]) {
         Take::Bytes(taken) => Ok(VisitGiven::Heard(Octets::from_slice(alloc, &buffer[..taken])?)),
         Take::End => Ok(VisitGiven::End),

@@ -5,8 +5,8 @@ ghost use Rattle.config_groups.specs.Ranges.{AreSettings};
 ghost use Rattle.http_text.specs.Head.{NeedsMore};
 ghost use Rattle.sendsms_http.specs.Visit as spec;
 
-mod answering;
-mod looking;
+mod answers;
+mod heads;
 
 use crate::HttpEnd;
 use config_groups::Settings;

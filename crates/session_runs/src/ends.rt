@@ -41,8 +41,8 @@ fn put_cause(report: &mut Octets, cause: EndCause) -> Result<(), Memory> {
 }
 
 /// Puts the octets last that were said in a talk, in hex.
-fn put_said(report: &mut Octets, past: &Past) -> Result<(), Memory> {
-    for piece in past.pieces.as_slice() {
+fn put_said(report: &mut Octets, pieces: &[Piece]) -> Result<(), Memory> {
+    for piece in pieces {
         if let Piece::Said(octets) = piece {
             report.push(b' ')?;
             write_hex(report, octets.as_slice())?;
@@ -63,7 +63,9 @@ pub fn put_worker<H: House>(report: &mut Octets, worker: &WorkerEnd<H>) -> Resul
     let mut has_failed = false;
     for past in worker.pasts.as_slice() {
         report.extend_from_slice(b" | said")?;
-        put_said(report, past)?;
+        if let Some(pieces) = &past.pieces {
+            put_said(report, pieces.as_slice())?;
+        }
         has_failed = has_failed || past.faults > 0;
     }
     Ok(has_failed)

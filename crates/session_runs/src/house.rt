@@ -6,9 +6,9 @@ ghost use Rattle.kn_base.specs.MemCourse.{mem_course};
 
 use crate::case::Case;
 use boxes_main::MemHouse;
-use kn_base::{MemClock, MemPeer, MemShelf, MemTake, Memory, Octets, Peer};
+use kn_base::{MemClock, MemPeer, MemShelf, MemTake, Memory, Octets};
 use line_cases::{both, numbers_of, octets_of, words_of};
-use peer_dialer::MemDialer;
+use peer_dialer::{Counted, MemDialer};
 use std::alloc::Global;
 use store_disk::MemDisk;
 
@@ -91,7 +91,7 @@ pub fn new_disk(alloc: Global) -> MemDisk {
 }
 
 /// The peers that a case's dialer has.
-fn peers_of<P: Peer + Drop>(alloc: Global, case: Case, peer: P) -> Result<Vec<P>, Memory>
+fn peers_of<P: Counted + Drop>(alloc: Global, case: Case, peer: P) -> Result<Vec<P>, Memory>
     requires { IsFresh (P.course peer) }
     ensures { IfOk result (λ peers. All (λ peer. IsFresh (P.course peer)) peers.items) }
 {
@@ -104,7 +104,7 @@ fn peers_of<P: Peer + Drop>(alloc: Global, case: Case, peer: P) -> Result<Vec<P>
 }
 
 /// The dialer of a case.
-fn dialers_of<P: Peer + Drop>(
+fn dialers_of<P: Counted + Drop>(
     alloc: Global,
     case: Case,
     peer: P,
@@ -128,7 +128,7 @@ pub fn sink(alloc: Global) -> MemPeer
 }
 
 /// A house with this disk, and with a dialer that has this peer.
-pub fn house_of<P: Peer + Drop>(
+pub fn house_of<P: Counted + Drop>(
     alloc: Global,
     case: Case,
     visitor: MemPeer,

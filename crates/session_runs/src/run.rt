@@ -9,8 +9,9 @@ use crate::house::{house_of, new_disk, sink, visitor_of};
 use crate::peers::{centre_peer, heard_peer};
 use crate::stops::run_each_stop;
 use boxes_main::{House, MemHouse, door, link_once, show};
-use kn_base::{Memory, Octets, Peer};
+use kn_base::{Memory, Octets};
 use line_cases::{put_named, words_of};
+use peer_dialer::Counted;
 use std::alloc::Global;
 use store_disk::MemDisk;
 
@@ -60,7 +61,7 @@ fn left_by_link<H: House>(
 }
 
 /// Puts what a house's standard output and standard error took last.
-fn put_sinks<P: Peer + Drop>(
+fn put_sinks<P: Counted + Drop>(
     alloc: Global,
     report: &mut Octets,
     house: MemHouse<P>,
@@ -82,7 +83,7 @@ pub fn filled(alloc: Global, case: Case) -> Result<MemDisk, Memory> {
 }
 
 /// Runs `link` with a peer over a disk.
-fn run_with<P: Peer + Drop>(
+fn run_with<P: Counted + Drop>(
     alloc: Global,
     case: Case,
     peer: P,

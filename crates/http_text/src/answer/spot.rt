@@ -28,8 +28,8 @@ pub enum Spot {
 }
 
 impl Spot {
-    // The name that the answer ends with.
-    pub(crate) fn name(self) -> &'static [u8]
+    /// The name of what is wrong: of a variable its own, as a query writes it.
+    pub fn name(self) -> &'static [u8]
         ensures value { result.now ≡ spec.spot_name self }
         ensures short { length result.now ≤ 32 }
     {

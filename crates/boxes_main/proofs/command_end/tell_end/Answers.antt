@@ -1,5 +1,5 @@
 use Rattle.std.proofs.Common.{ap, sym, ◌∙◌, subst}
-use Rattle.boxes_main.specs.Failure.{Tells}
+use Rattle.boxes_main.specs.Failure.{row_of, Tells}
 use Rattle.boxes_main.proofs.command_end.tell_end.Goals as goal
 
 pub returns-clause-rooms : goal.returns-clause-rooms
@@ -19,5 +19,5 @@ returns-clause-tells g c =
     let course = g.H.Er.Meter.course in
     let house = c.args.house.now in
     let lent = record (rooms house) { errors = c.tell.new.errors } in
-    subst (λ x. Tells c.args.failure.now (course (rooms house).errors) (course x)) (sym (ap (λ r. r.errors) (g.met.H.House.rooms_with house lent)))
-    (subst (λ x. Tells c.args.failure.now (course x) (course c.tell.new.errors)) c.errors.ensures.value c.tell.ensures)
+    subst (λ x. Tells (row_of g.F.Fault.says) c.args.failure.now (course (rooms house).errors) (course x)) (sym (ap (λ r. r.errors) (g.met.H.House.rooms_with house lent)))
+    (subst (λ x. Tells (row_of g.F.Fault.says) c.args.failure.now (course x) (course c.tell.new.errors)) c.errors.ensures.value c.tell.ensures)

@@ -1,10 +1,9 @@
 use Rattle.std.proofs.Common.{◌≡◌, subst, map}
 use Rattle.std.specs.Prelude.{option_map}
-use Rattle.sendsms_http.specs.Session.{Talks}
-use Rattle.boxes_main.specs.Door.{octets_limit, fault_by}
+use Rattle.boxes_main.specs.Door.{fault_by}
 use Rattle.boxes_main.specs.Worker.{worker_of}
-use Rattle.boxes_main.specs.declared.failure.Failure.TheVariants.{Session}
-use Rattle.boxes_main.proofs.Sessions.{serves_by}
+use Rattle.boxes_main.specs.declared.failure.Failure.TheVariants.{Own}
+use Rattle.boxes_main.proofs.Sessions.{TalksInTurn, serves_by}
 use Rattle.boxes_main.proofs.session.serve.Goals as goal
 
 pub returns : goal.returns
@@ -22,7 +21,8 @@ returns g c =
     peer c.args.opened.store c.serve_http-end.new.acceptor c.clock-clock.result c.serve_http-end.new.clock s.readings s.deeds c.serve_http-end.result c.close.result (map worker_of c.leave.result)
     c.clock-clock.ensures.rooms (g.met.H.House.rooms_with clocked lent) c.clock-clock.ensures.stock (g.met.H.House.stock_with clocked lent)
     c.status.result c.failure_of-failure.result c.status.ensures
-    (subst (λ b. c.failure_of-failure.result ≡ option_map Session (fault_by b c.serve_http-end.result)) c.is_unsure.ensures c.failure_of-failure.ensures)
+    (subst (λ b. c.failure_of-failure.result ≡ option_map Own (fault_by b c.serve_http-end.result)) c.is_unsure.ensures c.failure_of-failure.ensures)
     c.leave.ensures c.clock-clock.ensures.clock.unread s.clock
-    (subst (λ v. Talks c.args.opened.settings octets_limit (course v) (course peer) s.readings s.deeds c.serve_http-end.result) c.visitor.ensures.value s.peer)
-    s.led s.counts c.close.ensures.disk c.close.ensures.stands c.close.ensures.stops
+    (subst (λ v. TalksInTurn c.args.opened.settings (course v) (course peer) s.readings s.deeds c.serve_http-end.result) c.visitor.ensures.value
+    (record { talks = s.peer; events = s.events; turn = s.turn }))
+    s.led s.counts c.close.ensures.disk

@@ -1,8 +1,8 @@
-use Rattle.std.proofs.Common.{◌∙◌, rules, arith, sym, ap, subst, Option, Some, None, List, ℕ}
+use Rattle.std.proofs.Common.{◌≡◌, ◌∙◌, refl, rules, sym, ap, subst, Some}
 use Rattle.std.specs.Str.Lines.{lines}
 use Rattle.config_lines.specs.FilesSteps.{PutsLine}
 use Rattle.std.proofs.lemmas.Result.{on_ok_weaker}
-use Rattle.config_lines.proofs.Reading.{included_none, included_some, line_some, line_none, one_line, no_line, no_more, lines_none}
+use Rattle.config_lines.proofs.Reading.{one_name, included_none, included_some, line_some, line_none, one_line, no_line, lines_none}
 use Rattle.config_lines.proofs.read.+reading.Goals as goal
 
 pub add_included-returns-then-levels-eq0-clause-read : goal.add_included-returns-then-levels-eq0-clause-read
@@ -42,9 +42,35 @@ add_text-loop-preserved g t c = record {
   kept = search rules;
   missed = search rules;
   not_fewer = search rules;
+  asks = search rules;
+  spared = search rules;
   left = search rules;
   number = search rules;
   read = one_line (g.S.Shelf.files c.args.shelf.now) c.args.levels c.args.file c.loop.number (lines c.args.text.now) c.args.read.now c.loop.read
       (lines c.loop.rest.now) (lines c.cut_line.result.1.now) c.cut_line.result.0.now c.add_line.new.read c.cut_line.ensures.lines
       (search rules) (search rules) (search rules) c.loop.invariant.read;
+}
+
+pub add_file-returns-in-Ok-clause-went : goal.add_file-returns-in-Ok-clause-went
+add_file-returns-in-Ok-clause-went g t c =
+    let asked = one_name (g.S.Shelf.asked c.args.shelf.now) (g.S.Shelf.asked c.file.new.self) c.args.read.now c.push.new.self c.args.name.now (search rules) c.file.ensures.asked in
+    let same : g.S.Shelf.faults c.file.new.self ≡ g.S.Shelf.faults c.args.shelf.now = search rules in
+    let went = c.add_text.ensures.went in
+    record {
+      kept = went.kept ∙ c.file.ensures.files;
+      asks = on_ok_weaker c.add_text.result (λ asks before tells. asks before (asked before tells)) went.asks;
+      spared = on_ok_weaker c.add_text.result (λ spared none. spared none ∙ same) went.spared;
+      not_fewer = search rules;
+      missed = search rules;
+      files = search rules;
+    }
+
+pub add_file-returns-in-Err-Failed-clause-went : goal.add_file-returns-in-Err-Failed-clause-went
+add_file-returns-in-Err-Failed-clause-went g t c = record {
+  kept = c.file.ensures.files;
+  asks = one_name (g.S.Shelf.asked c.args.shelf.now) (g.S.Shelf.asked c.file.new.self) c.args.read.now c.push.new.self c.args.name.now (search rules) c.file.ensures.asked;
+  spared = λ none. absurd (none refl);
+  not_fewer = search rules;
+  missed = search rules;
+  files = search rules;
 }

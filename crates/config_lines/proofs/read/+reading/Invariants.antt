@@ -1,8 +1,8 @@
-use Rattle.std.proofs.Common.{◌≡◌, ◌≤◌, ◌+◌, ◌*◌, ℕ, Option, Some, length, IfSome}
+use Rattle.std.proofs.Common.{◌≡◌, ◌≢◌, List, ◌≤◌, ◌+◌, ◌*◌, ℕ, Option, Some, length, IfSome}
 use Rattle.std.specs.Str.Lines.{lines}
 use Rattle.kn_base.specs.Count.{Rose}
 use Rattle.config_lines.specs.Files.{going_on, lines_into, include_at, texts_but}
-use Rattle.config_lines.specs.FilesSteps.{Agrees}
+use Rattle.config_lines.specs.FilesSteps.{Agrees, TellsOf}
 use Rattle.config_lines.specs.declared.read.LinesFault.TheVariants.{NoFile}
 use Rattle.config_lines.proofs.read.+reading.Given as goal
 
@@ -25,6 +25,8 @@ invariant-add_text-loop g l = record {
   kept : g.S.Shelf.files l.shelf ≡ g.S.Shelf.files l.fn.shelf;
   missed : (l.read.fault ≡ Some NoFile) → Rose (g.S.Shelf.faults l.fn.shelf) (g.S.Shelf.faults l.shelf);
   not_fewer : g.S.Shelf.faults l.fn.shelf ≤ g.S.Shelf.faults l.shelf;
+  asks : (before : List (List ℕ)) → TellsOf l.fn.read before (g.S.Shelf.asked l.fn.shelf) → TellsOf l.read before (g.S.Shelf.asked l.shelf);
+  spared : (l.read.fault ≢ Some NoFile) → g.S.Shelf.faults l.shelf ≡ g.S.Shelf.faults l.fn.shelf;
   left : length l.rest + l.counter ≤ l.end;
   number : l.number ≤ l.counter + 1;
   read : IfSome (g.S.Shelf.files l.fn.shelf) (λ all. (missing : Option ℕ) → Agrees l.read missing →

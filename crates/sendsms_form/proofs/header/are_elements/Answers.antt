@@ -1,4 +1,4 @@
-use Rattle.std.proofs.Common.{◌∙◌, length, arith, rules}
+use Rattle.std.proofs.Common.{◌∙◌, length, rules}
 use Rattle.sendsms_form.proofs.Elements.{fill_goes}
 use Rattle.sendsms_form.proofs.header.are_elements.Goals as goal
 

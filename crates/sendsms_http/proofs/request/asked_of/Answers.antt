@@ -1,7 +1,7 @@
 use Rattle.std.proofs.Common.{All, List, subst, sym}
 use Rattle.config_groups.specs.Ranges.{IsUser}
 use Rattle.config_groups.specs.declared.settings.user.User.{User}
-use Rattle.sendsms_http.proofs.Looking.{user_found}
+use Rattle.sendsms_http.proofs.Heads.{user_found}
 use Rattle.sendsms_http.proofs.request.asked_of.Goals as goal
 
 pub asked_by-requires-clause-user : goal.asked_by-requires-clause-user

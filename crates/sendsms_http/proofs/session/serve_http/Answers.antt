@@ -3,7 +3,7 @@ use Rattle.sendsms_http.specs.SessionSteps.{SaysLost}
 use Rattle.sendsms_http.specs.declared.visit.VisitWish.TheVariants.{Listen, Submit, Say, Over}
 use Rattle.sendsms_http.proofs.Wishes.{step}
 use Rattle.sendsms_http.proofs.Doings.{listening, begins, waits_first, fits_then, fits_said, fits_answered, end_so, heard, said, handed, lost}
-use Rattle.sendsms_http.proofs.Falling.{heard_falls, said_falls_too, handed_falls}
+use Rattle.sendsms_http.proofs.Termination.{heard_falls, said_falls_too, handed_falls}
 use Rattle.sendsms_http.proofs.session.serve_http.Goals as goal
 
 pub loop-peer-init : goal.loop-peer-init
@@ -117,7 +117,7 @@ loop-peer-preserved-in-Submit g c =
       };
       most = next.budget ∙ i.most;
       due = handed g.A.Acceptor.leads g.A.Acceptor.faults g.A.Acceptor.can_submit c.args.settings.now c.args.acceptor.now start (readings c.args.clock.now)
-          g.met.A.Acceptor.leads_on visit c.in-Submit.time c.in-Submit.parts.items c.submit.result (course c.loop-peer.peer) (readings c.now.new.self) c.loop-peer.acceptor c.submit.new.self
+          g.met.A.Acceptor.leads_nowhere g.met.A.Acceptor.leads_on visit c.in-Submit.time c.in-Submit.parts.items c.submit.result (course c.loop-peer.peer) (readings c.now.new.self) c.loop-peer.acceptor c.submit.new.self
           hands c.submit.ensures.deed c.submit.ensures.disk c.submit.ensures.spared c.submit.ensures.kept c.submit.ensures.ready;
     }
 

@@ -1,8 +1,9 @@
 use Rattle.std.proofs.Common.{sym, ap, ◌∙◌, codes, subst, map}
 use Rattle.boxes_main.specs.Command.{configuration_of}
-use Rattle.boxes_main.specs.Door.{ComesTo}
-use Rattle.boxes_main.specs.Failure.{Tells}
+use Rattle.boxes_main.specs.Door.{DoorComesTo}
+use Rattle.boxes_main.specs.Failure.{row_of, Tells}
 use Rattle.boxes_main.specs.House.{Rooms, MakesFor}
+use Rattle.boxes_main.specs.SessionFault.{session_row}
 use Rattle.boxes_main.specs.Worker.{worker_of}
 use Rattle.boxes_main.proofs.Ending.{usage_by, comes_to_told}
 use Rattle.boxes_main.proofs.command.door.door.Goals as goal
@@ -11,7 +12,7 @@ pub returns-clause-line : goal.returns-clause-line
 returns-clause-line g c =
     let rooms = g.H.House.rooms in
     let course = g.H.Er.Meter.course in
-    subst (λ x. Tells c.run-ended.result.failure (course x) (course (rooms c.tell_end.new.house).errors)) (ap (λ r. r.errors) c.run-ended.ensures.others) c.tell_end.ensures.tells
+    subst (λ x. Tells (row_of session_row) c.run-ended.result.failure (course x) (course (rooms c.tell_end.new.house).errors)) (ap (λ r. r.errors) c.run-ended.ensures.others) c.tell_end.ensures.tells
 
 pub returns-clause-usage : goal.returns-clause-usage
 returns-clause-usage g c =
@@ -39,7 +40,7 @@ returns-clause-comes_to g c =
     let mid = c.run-ended.new.house in
     let ended = c.run-ended.result in
     let name = configuration_of (codes "door") c.args.words.now in
-    subst (λ (r : Rooms g.row.H-V.Denot g.row.H-S.Denot g.row.H-Ou.Denot g.row.H-Er.Denot). ComesTo g.H.V.Meter.course g.H.S.Shelf.files g.H.S.Shelf.faults
+    subst (λ (r : Rooms g.row.H-V.Denot g.row.H-S.Denot g.row.H-Ou.Denot g.row.H-Er.Denot). DoorComesTo g.H.V.Meter.course g.H.S.Shelf.files g.H.S.Shelf.faults
     g.H.D.Disk.meaning g.H.C.Clock.readings name (rooms house) r (stock house) (map worker_of ended.workers) ended.disk ended.failure)
     (sym c.tell_end.ensures.rooms)
     (comes_to_told g.H.V.Meter.course g.H.S.Shelf.files g.H.S.Shelf.faults g.H.D.Disk.meaning g.H.C.Clock.readings

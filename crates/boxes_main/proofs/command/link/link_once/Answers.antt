@@ -1,7 +1,8 @@
 use Rattle.std.proofs.Common.{sym, ap, ◌∙◌, codes, subst, map}
 use Rattle.boxes_main.specs.Command.{link_words}
-use Rattle.boxes_main.specs.Link.{ComesToLink}
-use Rattle.boxes_main.specs.Failure.{Tells}
+use Rattle.boxes_main.specs.Link.{LinkComesTo}
+use Rattle.boxes_main.specs.LinkFault.{link_row}
+use Rattle.boxes_main.specs.Failure.{row_of, Tells}
 use Rattle.boxes_main.specs.House.{Rooms, MakesFor}
 use Rattle.boxes_main.specs.Worker.{worker_of}
 use Rattle.boxes_main.proofs.LinkEnding.{link_usage, link_told}
@@ -11,7 +12,7 @@ pub returns-clause-line : goal.returns-clause-line
 returns-clause-line g c =
     let rooms = g.H.House.rooms in
     let course = g.H.Er.Meter.course in
-    subst (λ x. Tells c.run-ended.result.failure (course x) (course (rooms c.tell_end.new.house).errors)) (ap (λ r. r.errors) c.run-ended.ensures.others) c.tell_end.ensures.tells
+    subst (λ x. Tells (row_of link_row) c.run-ended.result.failure (course x) (course (rooms c.tell_end.new.house).errors)) (ap (λ r. r.errors) c.run-ended.ensures.others) c.tell_end.ensures.tells
 
 pub returns-clause-usage : goal.returns-clause-usage
 returns-clause-usage g c =
@@ -39,7 +40,7 @@ returns-clause-comes_to g c =
     let mid = c.run-ended.new.house in
     let ended = c.run-ended.result in
     let words = link_words (codes "link") c.args.words.now in
-    subst (λ (r : Rooms g.row.H-V.Denot g.row.H-S.Denot g.row.H-Ou.Denot g.row.H-Er.Denot). ComesToLink g.H.S.Shelf.files g.H.S.Shelf.faults
+    subst (λ (r : Rooms g.row.H-V.Denot g.row.H-S.Denot g.row.H-Ou.Denot g.row.H-Er.Denot). LinkComesTo g.H.S.Shelf.files g.H.S.Shelf.faults
     g.H.D.Disk.meaning g.H.C.Clock.readings g.H.Di.Dialer.dealings words (rooms house) r (stock house) (map worker_of ended.workers) ended.disk ended.failure)
     (sym c.tell_end.ensures.rooms)
     (link_told g.H.S.Shelf.files g.H.S.Shelf.faults g.H.D.Disk.meaning g.H.C.Clock.readings g.H.Di.Dialer.dealings

@@ -47,6 +47,6 @@ returns-in-Err g c =
     let house = c.args.house.now in
     let left = c.unserved-in-Err in
     serves_none disk.meaning g.H.C.Clock.readings g.H.Di.Dialer.dealings c.args.settings.now c.args.link (rooms house) (rooms c.open_store.new.house) (rooms house)
-    (stock house) (stock c.open_store.new.house) (stock house) left.result.status left.result.failure left.result.disk (map worker_of left.result.workers) c.in-Err.field-0.failure
+    (stock house) (stock c.open_store.new.house) (stock house) left.result.status left.result.failure left.result.disk (map worker_of left.result.workers) c.in-Err.field-0.fault
     c.open_store.ensures.rooms left.ensures.status left.ensures.failure (ap (λ ws. map worker_of ws) left.ensures.workers)
-    (subst (λ d. OpensNone disk.meaning c.args.settings.now (stock house) (stock c.open_store.new.house) c.in-Err.field-0.failure d) (sym left.ensures.disk) c.in-Err.ensures.err)
+    (subst (λ d. OpensNone disk.meaning c.args.settings.now (stock house) (stock c.open_store.new.house) c.in-Err.field-0.fault d) (sym left.ensures.disk) c.in-Err.ensures.err)

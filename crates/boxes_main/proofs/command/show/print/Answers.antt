@@ -17,4 +17,4 @@ returns g c = λ rules.
     (g.met.H.House.rooms_with house lent) (g.met.H.House.stock_with house lent) c.status.result c.failure_of-failure.result c.print_totals-fault.result
     c.status.ensures c.failure_of-failure.ensures (ap (map worker_of) c.new.ensures)
     (subst (λ o. Prints (show_text c.totals.result) c.print_totals-fault.result (course o) (course output)) c.output.ensures.value c.print_totals-fault.ensures)
-    c.totals.ensures.totals c.close.ensures.disk c.close.ensures.stands
+    c.totals.ensures.totals c.close.ensures.disk

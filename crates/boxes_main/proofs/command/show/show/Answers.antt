@@ -1,8 +1,8 @@
 use Rattle.std.proofs.Common.{sym, ap, ◌∙◌, codes, subst}
 use Rattle.boxes_main.specs.Command.{configuration_of}
-use Rattle.boxes_main.specs.Failure.{Tells}
+use Rattle.boxes_main.specs.Failure.{row_of, Tells}
 use Rattle.boxes_main.specs.House.{Rooms, MakesFor}
-use Rattle.boxes_main.specs.Show.{ComesToShow}
+use Rattle.boxes_main.specs.Show.{ShowComesTo, output_row}
 use Rattle.boxes_main.proofs.Ending.{show_usage_by, shows_told}
 use Rattle.boxes_main.proofs.command.show.show.Goals as goal
 
@@ -10,7 +10,7 @@ pub returns-clause-line : goal.returns-clause-line
 returns-clause-line g c =
     let rooms = g.H.House.rooms in
     let course = g.H.Er.Meter.course in
-    subst (λ x. Tells c.run-ended.result.failure (course x) (course (rooms c.tell_end.new.house).errors)) (ap (λ r. r.errors) c.run-ended.ensures.others) c.tell_end.ensures.tells
+    subst (λ x. Tells (row_of output_row) c.run-ended.result.failure (course x) (course (rooms c.tell_end.new.house).errors)) (ap (λ r. r.errors) c.run-ended.ensures.others) c.tell_end.ensures.tells
 
 pub returns-clause-usage : goal.returns-clause-usage
 returns-clause-usage g c =
@@ -37,7 +37,7 @@ returns-clause-comes_to g c =
     let mid = c.run-ended.new.house in
     let ended = c.run-ended.result in
     let name = configuration_of (codes "show") c.args.words.now in
-    subst (λ (r : Rooms g.row.H-V.Denot g.row.H-S.Denot g.row.H-Ou.Denot g.row.H-Er.Denot). ComesToShow g.H.Ou.Meter.course g.H.S.Shelf.files g.H.S.Shelf.faults
+    subst (λ (r : Rooms g.row.H-V.Denot g.row.H-S.Denot g.row.H-Ou.Denot g.row.H-Er.Denot). ShowComesTo g.H.Ou.Meter.course g.H.S.Shelf.files g.H.S.Shelf.faults
     g.H.D.Disk.meaning name (rooms house) r (stock house) ended.disk ended.failure)
     (sym c.tell_end.ensures.rooms)
     (shows_told g.H.Ou.Meter.course g.H.S.Shelf.files g.H.S.Shelf.faults g.H.D.Disk.meaning

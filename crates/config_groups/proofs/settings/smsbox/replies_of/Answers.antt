@@ -1,7 +1,7 @@
+use Rattle.std.proofs.Common.{refl}
 use Rattle.config_groups.specs.Settings.{replies_of}
-use Rattle.config_groups.proofs.Parts.{same_replies}
 use Rattle.config_groups.proofs.settings.smsbox.replies_of.Goals as goal
 
 pub returns : goal.returns
 unfolding replies_of
-returns c = same_replies c.in_ok-couldnotfetch.ensures c.in_ok-requestfailed.ensures c.in_ok-emptymessage.ensures
+returns c = rw (c.in_ok-couldnotfetch.ensures, c.in_ok-requestfailed.ensures, c.in_ok-emptymessage.ensures) refl

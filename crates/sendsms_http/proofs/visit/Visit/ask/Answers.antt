@@ -2,7 +2,7 @@ use Rattle.std.proofs.Common.{ap, ◌∙◌}
 use Rattle.http_text.proofs.Whole.{whole_head}
 use Rattle.sendsms_http.specs.declared.visit.Phase.TheVariants.{Submitting}
 use Rattle.sendsms_http.specs.declared.visit.Visit.{Visit}
-use Rattle.sendsms_http.proofs.Looking.{asks, owes_refused_so, says_owed}
+use Rattle.sendsms_http.proofs.Heads.{asks, owes_refused_so, says_owed}
 use Rattle.sendsms_http.proofs.visit.Visit.ask.Goals as goal
 
 pub drop_front-requires : goal.drop_front-requires

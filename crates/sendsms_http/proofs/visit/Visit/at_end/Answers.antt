@@ -1,6 +1,6 @@
 use Rattle.std.proofs.Common.{ap}
 use Rattle.sendsms_http.specs.declared.visit.Visit.{Visit}
-use Rattle.sendsms_http.proofs.Looking.{refused_at_end, not_empty}
+use Rattle.sendsms_http.proofs.Heads.{refused_at_end, not_empty}
 use Rattle.sendsms_http.proofs.visit.Visit.at_end.Goals as goal
 
 pub returns-else-is_empty-clause-ends : goal.returns-else-is_empty-clause-ends

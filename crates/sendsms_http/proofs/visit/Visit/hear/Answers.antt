@@ -1,6 +1,6 @@
 use Rattle.std.proofs.Common.{ap, ◌++◌}
 use Rattle.sendsms_http.specs.declared.visit.Visit.{Visit}
-use Rattle.sendsms_http.proofs.Looking.{owes_memory, says_owed, some_more}
+use Rattle.sendsms_http.proofs.Heads.{owes_memory, says_owed, some_more}
 use Rattle.sendsms_http.proofs.visit.Visit.hear.Goals as goal
 
 pub returns-in-Err-clause-looks : goal.returns-in-Err-clause-looks

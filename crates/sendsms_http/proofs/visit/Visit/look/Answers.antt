@@ -2,7 +2,7 @@ use Rattle.std.proofs.Common.{ap, sym, subst}
 use Rattle.http_text.specs.Head.{NeedsMore}
 use Rattle.http_text.proofs.FirstHead.{more_at_first}
 use Rattle.sendsms_http.specs.declared.visit.Visit.{Visit}
-use Rattle.sendsms_http.proofs.Looking.{whole_of, bad_of, long_of, owes_refusal, owes_memory, says_owed, not_empty}
+use Rattle.sendsms_http.proofs.Heads.{whole_of, bad_of, long_of, owes_refusal, owes_memory, says_owed, not_empty}
 use Rattle.sendsms_http.proofs.visit.Visit.look.Goals as goal
 
 pub returns-then-is_empty-clause-looks : goal.returns-then-is_empty-clause-looks
