@@ -1,3 +1,4 @@
+use Rattle.smpp_link.specs.Protocol.{SmppProtocol}
 use Rattle.std.proofs.Common.{◌≡◌, ◌<◌, ◌^◌, sym, subst, map}
 use Rattle.std.specs.Prelude.{option_map}
 use Rattle.link_turn.specs.Turn.{MayTurn}
@@ -16,7 +17,7 @@ use Rattle.boxes_main.proofs.link_session.serve_link.Goals as goal
 pub call-held-requires : goal.call-held-requires
 call-held-requires g c =
     record {
-      may = subst (λ n. MayTurn last_tag next_tag (λ tag. tag < 2 ^ 32) Smpp Hears Refuses smpp.said g.H.D.Disk.meaning c.args.session c.args.store n)
+      may = subst (λ n. MayTurn SmppProtocol g.H.D.Disk.meaning c.args.session c.args.store n)
           (sym c.clock-clock.ensures.clock.no_latest) c.requires.may;
     }
 
