@@ -29,7 +29,7 @@ use Rattle.store_disk.specs.Meaning.{Meaning}
 use Rattle.store_disk.specs.Story.{Story}
 use Rattle.boxes_main.specs.Failure.{row_of, status_of}
 use Rattle.boxes_main.specs.House.{Rooms, Stock, IsNewDialer, IsToldWord}
-use Rattle.boxes_main.specs.Link.{link_fault, terms_for, said_to, talk_cause, DiskRose, IsHeld, IsUndialled, Keeps}
+use Rattle.boxes_main.specs.Link.{link_fault, terms_for, talk_cause, DiskRose, IsHeld, IsUndialled, Keeps}
 use Rattle.boxes_main.specs.LinkFault.{link_row}
 use Rattle.boxes_main.specs.LinkSteps.{Calls, CallsNone, HoldsWith, IsNewSession, MayBegin, ServedSo, ServesLink, ends_by, failure_by, pasts_by}
 use Rattle.boxes_main.specs.Opening.{IsHouseDisk}

@@ -24,7 +24,7 @@ use Rattle.route_rules.specs.declared.link_kind.LinkKind.TheVariants.{Smpp}
 use Rattle.route_rules.specs.declared.link_rule.LinkRule.{LinkRule}
 use Rattle.route_rules.specs.declared.rules.Rules.{Rules}
 use Rattle.smpp_link.specs.Hearing.{Hears, Refuses}
-use Rattle.smpp_link.specs.Saying as smpp
+use Rattle.smpp_link.specs.Saying.{bind_of}
 use Rattle.store_disk.specs.Meaning.{Meaning}
 use Rattle.store_disk.specs.Story.{Story, LeavesOnly}
 use Rattle.boxes_main.specs.Door.{octets_limit}
@@ -148,10 +148,6 @@ terms_for number centre = record {
   wait_ack = centre.wait_ack;
   keepalive = centre.keepalive;
 }
-
--- the octets of what is said to a centre
-abbrev pub said_to : LinkSettings → Out → List ℕ
-said_to centre = smpp.said (smpp.bind_of centre)
 
 -- A session that was held with a centre: what was heard and said in these pieces, read of the clock, and done is the talk of a link, up to its
 -- end.
