@@ -18,6 +18,7 @@ use Rattle.gate_store.proofs.Commits.{settle-state_of}
 use Rattle.gate_store.proofs.Told.{told_leaves_weaker, told_leaves_both}
 use Rattle.gate_store.proofs.Turns.{after_more}
 use Rattle.route_rules.specs.declared.rules.Rules.{Rules}
+use Rattle.store_disk.specs.Meaning.{Meaning}
 use Rattle.store_disk.specs.Disk.{Areas}
 use Rattle.store_disk.specs.Story.{Story, IsImage, LeavesOnly, reads, untold}
 use Rattle.store_disk.specs.declared.area.Area.TheVariants.{A, B, Pick}
@@ -48,8 +49,8 @@ state_next : (birth : ℕ) (rules : Rules) (entries : List Recorded) (earlier : 
 state_next birth rules entries earlier deed =
     state_more birth rules (entries ++ done_of earlier) (entry_of deed) deed.outcome ∙ ap (state_of birth rules) (done_more entries earlier deed)
 
-module _ {D : Type 0} (tells : Bool) (story : D → Story) (faults calls : D → ℕ) (birth : ℕ) (rules : Rules) (entries : List Recorded) where
-  state_from : (earlier deeds : List Deed) (a c : Store D) → birth_in a ≡ birth → state_in a ≡ state_of birth rules (entries ++ done_of earlier) → Leads tells story faults calls a deeds c
+module _ {D : Type 0} (meaning : Meaning D) (birth : ℕ) (rules : Rules) (entries : List Recorded) where
+  state_from : (earlier deeds : List Deed) (a c : Store D) → birth_in a ≡ birth → state_in a ≡ state_of birth rules (entries ++ done_of earlier) → Leads meaning a deeds c
       → state_in c ≡ state_of birth rules (entries ++ done_of (earlier ++ deeds))
   state_from earlier [] a c born state leads =
       ap state_in leads ∙ state ∙ ap (λ ds. state_of birth rules (entries ++ done_of ds)) (sym (append-nil earlier))
@@ -60,13 +61,13 @@ module _ {D : Type 0} (tells : Bool) (story : D → Story) (faults calls : D →
       ∙ ap (λ ds. state_of birth rules (entries ++ done_of ds)) (append_assoc earlier (deed ∷ []) deeds)
 
   -- the state behind all deeds
-  pub state_after : (deeds : List Deed) (a c : Store D) → birth_in a ≡ birth → state_in a ≡ state_of birth rules entries → Leads tells story faults calls a deeds c
+  pub state_after : (deeds : List Deed) (a c : Store D) → birth_in a ≡ birth → state_in a ≡ state_of birth rules entries → Leads meaning a deeds c
       → state_in c ≡ state_of birth rules (entries ++ done_of deeds)
   state_after deeds a c born state leads = state_from [] deeds a c born (state ∙ ap (state_of birth rules) (sym (append-nil entries))) leads
 
   -- what they cost
-  pub calls_after : (deeds : List Deed) (a c : Store D) → Leads tells story faults calls a deeds c → calls (disk_in c) ≤ calls (disk_in a) + 6 * length deeds
-  calls_after [] a c leads = let same : calls (disk_in c) ≡ calls (disk_in a) = ap (λ s. calls (disk_in s)) leads in omega (arith, same)
+  pub calls_after : (deeds : List Deed) (a c : Store D) → Leads meaning a deeds c → meaning.calls (disk_in c) ≤ meaning.calls (disk_in a) + 6 * length deeds
+  calls_after [] a c leads = let same : meaning.calls (disk_in c) ≡ meaning.calls (disk_in a) = ap (λ s. meaning.calls (disk_in s)) leads in omega (arith, same)
   calls_after (deed ∷ deeds) a c leads =
       let first = leads.1.bounded in
       let rest = calls_after deeds leads.0 c leads.2 in
@@ -106,20 +107,20 @@ module _ (birth : ℕ) (rules : Rules) (entries : List Recorded) (all earlier : 
       in_doubt_before (Some kept) doubt = inl doubt
 
 module _
-    {D : Type 0} (tells : Bool) (story : D → Story) (faults calls : D → ℕ) (birth : ℕ) (rules : Rules) (entries : List Recorded) (all : List Deed) (first : Story) where
+    {D : Type 0} (meaning : Meaning D) (birth : ℕ) (rules : Rules) (entries : List Recorded) (all : List Deed) (first : Story) where
   -- a stop in the calls of deeds, behind what came before
   pub amid : (earlier deeds : List Deed) (a c : Store D) → all ≡ earlier ++ deeds → birth_in a ≡ birth → rules_in a ≡ rules → state_in a ≡ state_of birth rules (entries ++ done_of earlier)
-      → IfSome (unsure_in a) (IsInDoubt earlier) → OnTrue tells (LeavesOnly first (story (disk_in a)) (ReopensAmid birth rules entries all))
-      → Leads tells story faults calls a deeds c → OnTrue tells (LeavesOnly first (story (disk_in c)) (ReopensAmid birth rules entries all))
+      → IfSome (unsure_in a) (IsInDoubt earlier) → OnTrue meaning.tells (LeavesOnly first (meaning.story (disk_in a)) (ReopensAmid birth rules entries all))
+      → Leads meaning a deeds c → OnTrue meaning.tells (LeavesOnly first (meaning.story (disk_in c)) (ReopensAmid birth rules entries all))
   amid earlier [] a c split born ruled state doubt so_far leads =
-      subst (λ (s : Store D). OnTrue tells (LeavesOnly first (story (disk_in s)) (ReopensAmid birth rules entries all))) (sym leads) so_far
+      subst (λ (s : Store D). OnTrue meaning.tells (LeavesOnly first (meaning.story (disk_in s)) (ReopensAmid birth rules entries all))) (sym leads) so_far
   amid earlier (deed ∷ deeds) a c split born ruled state doubt so_far leads =
       amid (earlier ++ deed ∷ []) deeds leads.0 c (split ∙ sym (append_assoc earlier (deed ∷ []) deeds)) (leads.1.born ∙ born) (leads.1.ruled ∙ ruled)
       (leads.1.state ∙ ap (λ b. state_behind b (state_in a) (entry_of deed) deed.outcome) born ∙ ap (λ s. state_behind birth s (entry_of deed) deed.outcome) state
       ∙ state_next birth rules entries earlier deed)
       (in_doubt_more earlier deed (unsure_in a) (unsure_in leads.0) doubt leads.1.unsure)
-      (told_leaves_both tells first (story (disk_in a)) (story (disk_in leads.0)) (ReopensAmid birth rules entries all) so_far
-      (told_leaves_weaker tells (story (disk_in a)) (story (disk_in leads.0)) (MayReopenIn (birth_in a) (rules_in a) (state_in a) (unsure_in a) (entry_of deed)) (ReopensAmid birth rules entries all)
+      (told_leaves_both tells first (meaning.story (disk_in a)) (meaning.story (disk_in leads.0)) (ReopensAmid birth rules entries all) so_far
+      (told_leaves_weaker tells (meaning.story (disk_in a)) (meaning.story (disk_in leads.0)) (MayReopenIn (birth_in a) (rules_in a) (state_in a) (unsure_in a) (entry_of deed)) (ReopensAmid birth rules entries all)
       (amid_one birth rules entries all earlier deed deeds split (birth_in a) (rules_in a) (state_in a) (unsure_in a) born ruled state doubt) leads.1.stops))
       leads.2
 

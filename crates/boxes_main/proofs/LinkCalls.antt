@@ -6,18 +6,18 @@ use Rattle.link_core.specs.declared.heard.Heard.{Heard}
 use Rattle.link_core.specs.declared.out.Out.{Out}
 use Rattle.link_turn.specs.declared.terms.Terms.{Terms}
 use Rattle.peer_dialer.specs.Dealings.{Dealings, Adds, FailsToDial, IsGone, KeepsDial, asked_for}
-use Rattle.store_disk.specs.Story.{Story}
+use Rattle.store_disk.specs.Meaning.{Meaning}
 use Rattle.boxes_main.specs.LinkSteps.{Calls, HoldsWith}
 use Rattle.boxes_main.specs.declared.link_session.Held.{Held}
 
 module _
     {C D : Type 0} (hears : List ℕ → Heard → Type 0) (refuses : List ℕ → ℕ → ℕ → Type 0) (said : C → Out → List ℕ)
-    (tells : Bool) (story : D → Story) (faults calls : D → ℕ) (core : C) (terms : Terms) (centre : LinkSettings) (told : Option (List ℕ)) (store : Store D)
+    (meaning : Meaning D) (core : C) (terms : Terms) (centre : LinkSettings) (told : Option (List ℕ)) (store : Store D)
     (before now : Dealings) where
   -- a session was held with the peer that was given
   pub calls_held : (now_told : Option (List ℕ)) (after : Store D) (between : Dealings) (held : Held) → KeepsDial (asked_for centre.host centre.port) before between
-      → HoldsWith hears refuses said tells story faults calls core terms told now_told store after between now held
-      → Calls hears refuses said tells story faults calls core terms centre told now_told store after before now (Some held)
+      → HoldsWith hears refuses said meaning core terms told now_told store after between now held
+      → Calls hears refuses said meaning core terms centre told now_told store after before now (Some held)
   calls_held now_told after between held keeps holds = record {
     dials = subst (λ d. Adds (asked_for centre.host centre.port) before.dials d) (sym (ap (λ (d : Dealings). d.dials) holds.same)) keeps.dials;
     between = between;
@@ -27,7 +27,7 @@ module _
 
   -- the dial failed, or no peer was left
   pub calls_failed : KeepsDial (asked_for centre.host centre.port) before now → FailsToDial before now
-      → Calls hears refuses said tells story faults calls core terms centre told told store store before now None
+      → Calls hears refuses said meaning core terms centre told told store store before now None
   calls_failed keeps fails = record {
     dials = keeps.dials;
     between = now;
@@ -36,7 +36,7 @@ module _
   }
 
   pub calls_gone : KeepsDial (asked_for centre.host centre.port) before now → IsGone before now
-      → Calls hears refuses said tells story faults calls core terms centre told told store store before now None
+      → Calls hears refuses said meaning core terms centre told told store store before now None
   calls_gone keeps gone = record {
     dials = keeps.dials;
     between = now;

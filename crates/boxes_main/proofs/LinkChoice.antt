@@ -26,7 +26,7 @@ use Rattle.smpp_link.specs.Saying.{bind_of}
 use Rattle.smpp_link.specs.Saying as smpp
 use Rattle.smpp_link.specs.Tags.{last_tag, next_tag}
 use Rattle.smpp_wire.specs.Command.{BindFields}
-use Rattle.store_disk.specs.Story.{Story}
+use Rattle.store_disk.specs.Meaning.{Meaning}
 use Rattle.boxes_main.specs.Link.{terms_for, HasNone, IsFirst}
 use Rattle.boxes_main.specs.LinkSteps.{Chooses, Finds, IsLinked, IsNewSession, MayBegin}
 
@@ -105,8 +105,8 @@ module _ (settings : Settings) (in_range : AreSettings settings) where
   link_in number centre linked = record { rule = linked.rule; there = linked.there; kind_is = linked.kind; named = sym (pair_in number centre linked).id }
 
   -- a session that hasn't begun may have its first turn over the store that was opened
-  pub begins_over : {D : Type 0} (tells : Bool) (story : D → Story) (faults calls : D → ℕ) (number : ℕ) (centre : LinkSettings) (session : Session BindFields) (disk : D) (birth : ℕ) (store : Store D)
-      → IsLinked settings number centre → IsNewSession number centre session → IsOpened tells story faults calls disk settings.rules birth store → MayBegin tells story session store
-  begins_over tells story faults calls number centre session disk birth store linked new opened =
-      may_begin last_tag next_tag (λ tag. tag < 2 ^ 32) Smpp Hears Refuses smpp.said tells story faults calls (bind_of centre) (terms_for number centre) session disk settings.rules birth 0 store
+  pub begins_over : {D : Type 0} (meaning : Meaning D) (number : ℕ) (centre : LinkSettings) (session : Session BindFields) (disk : D) (birth : ℕ) (store : Store D)
+      → IsLinked settings number centre → IsNewSession number centre session → IsOpened meaning disk settings.rules birth store → MayBegin meaning session store
+  begins_over meaning number centre session disk birth store linked new opened =
+      may_begin last_tag next_tag (λ tag. tag < 2 ^ 32) Smpp Hears Refuses smpp.said meaning (bind_of centre) (terms_for number centre) session disk settings.rules birth 0 store
       new.new_one new.sound opened has_ids (link_in number centre linked)

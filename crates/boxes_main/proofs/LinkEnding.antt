@@ -7,7 +7,7 @@ use Rattle.config_groups.specs.declared.settings.link_settings.LinkSettings.{Lin
 use Rattle.gate_store.specs.declared.store.Store.{Store as Stored}
 use Rattle.gate_store.specs.declared.store_fault.StoreFault.TheVariants as store_is
 use Rattle.peer_dialer.specs.Dealings.{Dealings}
-use Rattle.store_disk.specs.Story.{Story}
+use Rattle.store_disk.specs.Meaning.{Meaning}
 use Rattle.boxes_main.specs.Failure.{status_of}
 use Rattle.boxes_main.specs.House.{Rooms, Stock, MakesFor}
 use Rattle.boxes_main.specs.Link.{IsChosen, IsNotLinked, ComesToLink}
@@ -20,13 +20,13 @@ use Rattle.boxes_main.specs.declared.failure.Failure.TheVariants.{Usage, Configu
 
 module _
     {S D : Type 0} (files : S → Option (List (List ℕ × List ℕ))) (shelf_faults : S → ℕ)
-    (tells : Bool) (story : D → Story) (faults calls : D → ℕ) (old : S) (stock : Stock) where
+    (meaning : Meaning D) (old : S) (stock : Stock) where
   -- words that name no link
-  pub unnamed : IsNotLinked files shelf_faults tells story faults calls None old old stock None Usage
+  pub unnamed : IsNotLinked files shelf_faults meaning None old old stock None Usage
   unnamed = (refl, refl, refl)
 
   -- want of memory before the shelf was asked
-  pub unbegun : (name id : List ℕ) → IsNotLinked files shelf_faults tells story faults calls (Some (name, id)) old old stock None (Configuration config_is.Memory)
+  pub unbegun : (name id : List ℕ) → IsNotLinked files shelf_faults meaning (Some (name, id)) old old stock None (Configuration config_is.Memory)
   unbegun name id = (record { read = by_told (files old); missed = λ is. absurd cc; kept = refl; not_fewer = omega arith }, refl)
     where
       by_told : (told : Option (List (List ℕ × List ℕ))) → IfSome told (λ files. Unit {0})
@@ -35,7 +35,7 @@ module _
 
   -- a link that isn't chosen
   pub unchosen : (new : S) (name id : List ℕ) (settings : Settings) (failure : Failure) → Reads files shelf_faults name old new (Ok settings) → ChoosesNone settings id failure
-      → IsNotLinked files shelf_faults tells story faults calls (Some (name, id)) old new stock None failure
+      → IsNotLinked files shelf_faults meaning (Some (name, id)) old new stock None failure
   unchosen new name id settings NoSuchLink reads none = (settings, reads, none, refl)
   unchosen new name id settings KindNotBuilt reads none = (settings, none.0, none.1, record { reads = reads; first = none.2 }, none.3, refl)
   unchosen new name id settings NoStoreFile reads none = (settings, none.0, none.1, record { reads = reads; first = none.2 }, none.3, none.4, refl)
@@ -48,7 +48,7 @@ module _
   unchosen new name id settings (Output fault) reads none = absurd none
 
   -- what is no usage is told only of words that name a link
-  named : (words : Option (List ℕ × List ℕ)) (new : S) (disk : Option D) (failure : Failure) → IsNotLinked files shelf_faults tells story faults calls words old new stock disk failure
+  named : (words : Option (List ℕ × List ℕ)) (new : S) (disk : Option D) (failure : Failure) → IsNotLinked files shelf_faults meaning words old new stock disk failure
       → (Some failure ≡ Some Usage → words ≡ None) × (words ≡ None → Some failure ≡ Some Usage)
   named words new disk Usage cause = (λ _. cause.0, λ _. refl)
   named None new disk (Configuration fault) cause = absurd cause.0
@@ -74,30 +74,30 @@ module _
 
 module _
     {V S O E D C L : Type 0} (files : S → Option (List (List ℕ × List ℕ))) (shelf_faults : S → ℕ)
-    (tells : Bool) (story : D → Story) (faults calls : D → ℕ) (readings_of : C → Option (List ℕ)) (dealings : L → Dealings)
+    (meaning : Meaning D) (readings_of : C → Option (List ℕ)) (dealings : L → Dealings)
     (words : Option (List ℕ × List ℕ)) (old new : Rooms V S O E) (before : Stock) where
   -- a usage is told exactly where the words name no link
   pub link_usage : (workers : List (Worker C L)) (disk : Option D) (failure : Option Failure)
-      → ComesToLink files shelf_faults tells story faults calls readings_of dealings words old new before workers disk failure → (failure ≡ Some Usage) ↔ (words ≡ None)
+      → ComesToLink files shelf_faults meaning readings_of dealings words old new before workers disk failure → (failure ≡ Some Usage) ↔ (words ≡ None)
   link_usage workers disk None comes =
-      chosen_named files shelf_faults tells story faults calls old.shelf before words new.shelf comes.settings comes.number comes.centre None comes.chosen (λ is. absurd cc)
+      chosen_named files shelf_faults meaning old.shelf before words new.shelf comes.settings comes.number comes.centre None comes.chosen (λ is. absurd cc)
   link_usage workers disk (Some (Link fault)) comes =
-      chosen_named files shelf_faults tells story faults calls old.shelf before words new.shelf comes.settings comes.number comes.centre (Some (Link fault)) comes.chosen (λ is. absurd cc)
+      chosen_named files shelf_faults meaning old.shelf before words new.shelf comes.settings comes.number comes.centre (Some (Link fault)) comes.chosen (λ is. absurd cc)
   link_usage workers disk (Some Undialled) comes =
-      chosen_named files shelf_faults tells story faults calls old.shelf before words new.shelf comes.settings comes.number comes.centre (Some Undialled) comes.chosen (λ is. absurd cc)
-  link_usage workers disk (Some Usage) comes = named files shelf_faults tells story faults calls old.shelf before words new.shelf disk Usage comes.cause
-  link_usage workers disk (Some (Configuration fault)) comes = named files shelf_faults tells story faults calls old.shelf before words new.shelf disk (Configuration fault) comes.cause
-  link_usage workers disk (Some NoSuchLink) comes = named files shelf_faults tells story faults calls old.shelf before words new.shelf disk NoSuchLink comes.cause
-  link_usage workers disk (Some KindNotBuilt) comes = named files shelf_faults tells story faults calls old.shelf before words new.shelf disk KindNotBuilt comes.cause
-  link_usage workers disk (Some NoStoreFile) comes = named files shelf_faults tells story faults calls old.shelf before words new.shelf disk NoStoreFile comes.cause
-  link_usage workers disk (Some (Store fault)) comes = named files shelf_faults tells story faults calls old.shelf before words new.shelf disk (Store fault) comes.cause
+      chosen_named files shelf_faults meaning old.shelf before words new.shelf comes.settings comes.number comes.centre (Some Undialled) comes.chosen (λ is. absurd cc)
+  link_usage workers disk (Some Usage) comes = named files shelf_faults meaning old.shelf before words new.shelf disk Usage comes.cause
+  link_usage workers disk (Some (Configuration fault)) comes = named files shelf_faults meaning old.shelf before words new.shelf disk (Configuration fault) comes.cause
+  link_usage workers disk (Some NoSuchLink) comes = named files shelf_faults meaning old.shelf before words new.shelf disk NoSuchLink comes.cause
+  link_usage workers disk (Some KindNotBuilt) comes = named files shelf_faults meaning old.shelf before words new.shelf disk KindNotBuilt comes.cause
+  link_usage workers disk (Some NoStoreFile) comes = named files shelf_faults meaning old.shelf before words new.shelf disk NoStoreFile comes.cause
+  link_usage workers disk (Some (Store fault)) comes = named files shelf_faults meaning old.shelf before words new.shelf disk (Store fault) comes.cause
   link_usage workers disk (Some (Session fault)) comes = absurd comes
   link_usage workers disk (Some (Output fault)) comes = absurd comes
 
   -- what is said on standard error changes nothing else
   pub link_told : (workers : List (Worker C L)) (disk : Option D) (failure : Option Failure) (errors : E)
-      → ComesToLink files shelf_faults tells story faults calls readings_of dealings words old new before workers disk failure
-      → ComesToLink files shelf_faults tells story faults calls readings_of dealings words old (record new { errors = errors }) before workers disk failure
+      → ComesToLink files shelf_faults meaning readings_of dealings words old new before workers disk failure
+      → ComesToLink files shelf_faults meaning readings_of dealings words old (record new { errors = errors }) before workers disk failure
   link_told workers disk None errors comes =
       record { settings = comes.settings; number = comes.number; centre = comes.centre; chosen = comes.chosen; held = comes.held }
   link_told workers disk (Some (Link fault)) errors comes =
@@ -115,8 +115,8 @@ module _
 
   -- no store stood open
   links_none : (workers : List (Worker C L)) (disk : Option D) (failure : Failure) → workers ≡ []
-      → IsNotLinked files shelf_faults tells story faults calls words old.shelf new.shelf before disk failure
-      → ComesToLink files shelf_faults tells story faults calls readings_of dealings words old new before workers disk (Some failure)
+      → IsNotLinked files shelf_faults meaning words old.shelf new.shelf before disk failure
+      → ComesToLink files shelf_faults meaning readings_of dealings words old new before workers disk (Some failure)
   links_none workers disk Usage alone cause = record { no_worker = alone; cause = cause }
   links_none workers disk (Configuration fault) alone cause = record { no_worker = alone; cause = cause }
   links_none workers disk NoSuchLink alone cause = record { no_worker = alone; cause = cause }
@@ -130,21 +130,21 @@ module _
 
   pub link_ends_closed : (after : Stock) (status : ℕ) (failure : Option Failure) (disk : Option D) (workers : List (Worker C L)) (why : Failure)
       → new ≡ record old { shelf = new.shelf } → MakesFor disk before after → status ≡ status_of failure → failure ≡ Some why → workers ≡ []
-      → IsNotLinked files shelf_faults tells story faults calls words old.shelf new.shelf before disk why
-      → EndsLink files shelf_faults tells story faults calls readings_of dealings words old new before after status failure disk workers
+      → IsNotLinked files shelf_faults meaning words old.shelf new.shelf before disk why
+      → EndsLink files shelf_faults meaning readings_of dealings words old new before after status failure disk workers
   link_ends_closed after status failure disk workers why others made right failed alone cause = record {
     others = others;
     right = right;
     made = made;
-    comes_to = subst (λ f. ComesToLink files shelf_faults tells story faults calls readings_of dealings words old new before workers disk f) (sym failed)
+    comes_to = subst (λ f. ComesToLink files shelf_faults meaning readings_of dealings words old new before workers disk f) (sym failed)
         (links_none workers disk why alone cause);
   }
 
   -- a link was chosen
   comes_chosen : (settings : Settings) (number : ℕ) (centre : LinkSettings) (workers : List (Worker C L)) (disk : Option D) (failure : Option Failure)
       → IsChosen files shelf_faults words old.shelf new.shelf settings number centre
-      → ChosenSo tells story faults calls readings_of dealings settings number centre before workers disk failure
-      → ComesToLink files shelf_faults tells story faults calls readings_of dealings words old new before workers disk failure
+      → ChosenSo meaning readings_of dealings settings number centre before workers disk failure
+      → ComesToLink files shelf_faults meaning readings_of dealings words old new before workers disk failure
   comes_chosen settings number centre workers disk None chosen so =
       record { settings = settings; number = number; centre = centre; chosen = chosen; held = so }
   comes_chosen settings number centre workers disk (Some (Link fault)) chosen so =
@@ -163,12 +163,12 @@ module _
 
 module _
     {V S O E D C L : Type 0} (files : S → Option (List (List ℕ × List ℕ))) (shelf_faults : S → ℕ)
-    (tells : Bool) (story : D → Story) (faults calls : D → ℕ) (readings_of : C → Option (List ℕ)) (dealings : L → Dealings)
+    (meaning : Meaning D) (readings_of : C → Option (List ℕ)) (dealings : L → Dealings)
     (name id : List ℕ) (old mid new : Rooms V S O E) (before between after : Stock) (settings : Settings) (number : ℕ) where
   pub link_ends : (status : ℕ) (failure : Option Failure) (disk : Option D) (workers : List (Worker C L))
       → mid ≡ record old { shelf = mid.shelf } → between ≡ before → IsChosenIn files shelf_faults name id old.shelf mid.shelf settings number
-      → ServesChosen tells story faults calls readings_of dealings settings number mid new between after status failure disk workers
-      → EndsLink files shelf_faults tells story faults calls readings_of dealings (Some (name, id)) old new before after status failure disk workers
+      → ServesChosen meaning readings_of dealings settings number mid new between after status failure disk workers
+      → EndsLink files shelf_faults meaning readings_of dealings (Some (name, id)) old new before after status failure disk workers
   link_ends status failure disk workers read stays chosen serves =
       let chooses = chosen.2 in
       let shelf : new.shelf ≡ mid.shelf = ap (λ r. r.shelf) serves.others in
@@ -186,44 +186,44 @@ module _
         others = serves.others ∙ read ∙ ap (λ (s : S). record old { shelf = s }) (sym shelf);
         right = serves.right;
         made = subst (λ s. MakesFor disk s after) stays serves.made;
-        comes_to = comes_chosen files shelf_faults tells story faults calls readings_of dealings (Some (name, id)) old new before settings number chooses.centre workers disk failure there
-            (subst (λ s. ChosenSo tells story faults calls readings_of dealings settings number chooses.centre s workers disk failure) stays
+        comes_to = comes_chosen files shelf_faults meaning readings_of dealings (Some (name, id)) old new before settings number chooses.centre workers disk failure there
+            (subst (λ s. ChosenSo meaning readings_of dealings settings number chooses.centre s workers disk failure) stays
             (serves.so chooses.centre (record { rule = chooses.rule; there = chooses.first.there; kind = chooses.kind; centre_is = chooses.centre_is })));
       }
 
 module _
-    {V S O E D C L : Type 0} (tells : Bool) (story : D → Story) (faults calls : D → ℕ) (readings_of : C → Option (List ℕ)) (dealings : L → Dealings)
+    {V S O E D C L : Type 0} (meaning : Meaning D) (readings_of : C → Option (List ℕ)) (dealings : L → Dealings)
     (settings : Settings) (number : ℕ) (old mid new : Rooms V S O E) (before between after : Stock) where
   -- no store stands open
   pub serves_none : (status : ℕ) (failure : Option Failure) (disk : Option D) (workers : List (Worker C L)) (why : Failure)
       → mid ≡ old → status ≡ status_of failure → failure ≡ Some why → workers ≡ []
-      → OpensNone tells story faults calls settings before between why disk
-      → ServesChosen tells story faults calls readings_of dealings settings number old mid before between status failure disk workers
+      → OpensNone meaning settings before between why disk
+      → ServesChosen meaning readings_of dealings settings number old mid before between status failure disk workers
   serves_none status failure disk workers why same right failed alone opens = record {
     others = same;
     right = right;
     made = opens.made;
     so = λ centre linked.
-        subst (λ f. ChosenSo tells story faults calls readings_of dealings settings number centre before workers disk f) (sym (failed ∙ ap (λ f. Some f) opens.failed))
+        subst (λ f. ChosenSo meaning readings_of dealings settings number centre before workers disk f) (sym (failed ∙ ap (λ f. Some f) opens.failed))
         (alone, opens.cause);
   }
 
   -- there was no memory for the session
   pub serves_no_memory : (status : ℕ) (failure : Option Failure) (disk : Option D) (workers : List (Worker C L))
       → status ≡ status_of failure → failure ≡ Some (Store store_is.Memory) → disk ≡ None → workers ≡ []
-      → ServesChosen tells story faults calls readings_of dealings settings number old old before before status failure disk workers
+      → ServesChosen meaning readings_of dealings settings number old old before before status failure disk workers
   serves_no_memory status failure disk workers right failed none alone = record {
     others = refl;
     right = right;
     made = subst (λ (d : Option D). MakesFor d before before) (sym none) refl;
     so = λ centre linked.
-        subst (λ f. ChosenSo tells story faults calls readings_of dealings settings number centre before workers disk f) (sym failed)
-        (alone, subst (λ (d : Option D). IsNoStore tells story faults calls (before.disks settings.core.store_file) settings.rules d store_is.Memory) (sym none) refl);
+        subst (λ f. ChosenSo meaning readings_of dealings settings number centre before workers disk f) (sym failed)
+        (alone, subst (λ (d : Option D). IsNoStore meaning (before.disks settings.core.store_file) settings.rules d store_is.Memory) (sym none) refl);
   }
 
   served_chosen : (rule_centre centre : LinkSettings) (workers : List (Worker C L)) (disk : Option D) (failure : Option Failure)
-      → ServedSo tells story faults calls readings_of dealings settings.rules number centre (before.disks settings.core.store_file) before.word workers disk failure
-      → ChosenSo tells story faults calls readings_of dealings settings number centre before workers disk failure
+      → ServedSo meaning readings_of dealings settings.rules number centre (before.disks settings.core.store_file) before.word workers disk failure
+      → ChosenSo meaning readings_of dealings settings number centre before workers disk failure
   served_chosen rule_centre centre workers disk None so = so
   served_chosen rule_centre centre workers disk (Some (Link fault)) so = so
   served_chosen rule_centre centre workers disk (Some Undialled) so = so
@@ -245,15 +245,15 @@ module _
 
   -- a centre was dialled over the store that was opened
   pub serves_opened : (centre : LinkSettings) (store : Stored D) (status : ℕ) (failure : Option Failure) (disk : Option D) (workers : List (Worker C L))
-      → mid ≡ old → slice_get settings.links number ≡ Some centre → OpensStore tells story faults calls settings before between store
-      → ServesLink tells story faults calls readings_of dealings number centre mid new between after store status failure disk workers
-      → ServesChosen tells story faults calls readings_of dealings settings number old new before after status failure disk workers
+      → mid ≡ old → slice_get settings.links number ≡ Some centre → OpensStore meaning settings before between store
+      → ServesLink meaning readings_of dealings number centre mid new between after store status failure disk workers
+      → ServesChosen meaning readings_of dealings settings number old new before after status failure disk workers
   serves_opened centre store status failure disk workers same there opens serves = record {
     others = serves.others ∙ same;
     right = serves.right;
     made = subst (λ s. MakesFor disk before s) (sym serves.stock) (made_some disk opens.disk serves.back opens.made);
     so = λ other linked.
-        subst (λ c. ChosenSo tells story faults calls readings_of dealings settings number c before workers disk failure) (same_centre centre other (slice_get settings.links number) there linked.centre_is)
+        subst (λ c. ChosenSo meaning readings_of dealings settings number c before workers disk failure) (same_centre centre other (slice_get settings.links number) there linked.centre_is)
         (served_chosen centre centre workers disk failure
         (serves.served settings.rules (before.disks settings.core.store_file) before.word opens.birth opens.disk opens.told opens.new_disk opens.opened));
   }

@@ -30,6 +30,7 @@ use Rattle.gate_store.proofs.Told.{told_weaker, told_leaves_weaker, told_leaves_
 use Rattle.link_turn.specs.Steps.{Deed, performed, passed, took}
 use Rattle.link_turn.specs.Turn.{IsOf, Leads}
 use Rattle.route_rules.specs.declared.rules.Rules.{Rules}
+use Rattle.store_disk.specs.Meaning.{Meaning}
 use Rattle.store_disk.specs.Disk.{Areas}
 use Rattle.store_disk.specs.Story.{Story, LeavesOnly, untold}
 use Rattle.boxes_main.specs.House.{IsToldWord}
@@ -55,21 +56,21 @@ alike_may birth rules s t (Some kept) image same is =
 
 -- ---- what a deed moves
 
-module _ {D : Type 0} (tells : Bool) (story : D → Story) (faults calls : D → ℕ) (rules : Rules) (link : ℕ) where
+module _ {D : Type 0} (meaning : Meaning D) (rules : Rules) (link : ℕ) where
   -- nothing was recorded, and the disk wasn't asked
   record Stays (deed : Deed) (old new : Store D) : Type 0 where
     pub ruled : rules_in new ≡ rules_in old
     pub born : birth_in new ≡ birth_in old
     pub disk : disk_in new ≡ disk_in old
     pub unsure : unsure_in new ≡ unsure_in old
-    pub holds : (birth : ℕ) (entries : List Recorded) → IsStore tells story old birth entries → IsStore tells story new birth entries
+    pub holds : (birth : ℕ) (entries : List Recorded) → IsStore meaning old birth entries → IsStore meaning new birth entries
     pub none : recorded_by rules link deed ≡ []
 
   -- an entry was asked for
   record Moves (deed : Deed) (old new : Store D) : Type 0 where
     pub kept : Recorded
     pub outcome : Result Reply Refusal
-    pub does_ : Performs tells story faults calls old kept outcome new
+    pub does_ : Performs meaning old kept outcome new
     pub records : recorded_by rules link deed ≡ put_behind kept outcome
     pub asked : Asks rules link deed kept
     pub failed : is_by_disk outcome ≡ is_failed rules link deed
@@ -80,19 +81,19 @@ module _ {D : Type 0} (tells : Bool) (story : D → Story) (faults calls : D →
     born = ap birth_in same;
     disk = ap disk_in same;
     unsure = ap unsure_in same;
-    holds = λ birth entries is. subst (λ s. IsStore tells story s birth entries) (sym same) is;
+    holds = λ birth entries is. subst (λ s. IsStore meaning s birth entries) (sym same) is;
     none = none;
   }
 
-  passes_stays : (deed : Deed) (old new : Store D) (brief : Passing) → Passes tells story faults calls old brief new → recorded_by rules link deed ≡ [] → Stays deed old new
+  passes_stays : (deed : Deed) (old new : Store D) (brief : Passing) → Passes meaning old brief new → recorded_by rules link deed ≡ [] → Stays deed old new
   passes_stays deed old new brief is none = record { ruled = is.ruled; born = is.born; disk = is.disk; unsure = is.unsure; holds = is.holds; none = none }
 
   withheld : (late : Bool) (old new : Store D) (now message : ℕ) (refusal : Refusal) → rules_in old ≡ rules
-      → Withholds tells story faults calls late old link now message refusal new → Stays (took now (Err refusal)) old new ⊎ Moves (took now (Err refusal)) old new
+      → Withholds meaning late old link now message refusal new → Stays (took now (Err refusal)) old new ⊎ Moves (took now (Err refusal)) old new
   withheld true old new now message refusal same (inl done) = inr (record {
     kept = expired rules link now message;
     outcome = Err refusal;
-    does_ = subst (λ (r : Rules). Performs tells story faults calls old (expired r link now message) (Err refusal) new) same done;
+    does_ = subst (λ (r : Rules). Performs meaning old (expired r link now message) (Err refusal) new) same done;
     records = refl;
     asked = (message, refl);
     failed = refl;
@@ -101,14 +102,14 @@ module _ {D : Type 0} (tells : Bool) (story : D → Story) (faults calls : D →
   withheld false old new now message refusal same none = inl (same_stays (took now (Err refusal)) old new none.1 refl)
 
   taken_one : (old new : Store D) (now message : ℕ) (outcome : Result (Option Taken) Refusal) → rules_in old ≡ rules
-      → TakesMessage tells story faults calls old link now message outcome new → Stays (took now outcome) old new ⊎ Moves (took now outcome) old new
+      → TakesMessage meaning old link now message outcome new → Stays (took now outcome) old new ⊎ Moves (took now outcome) old new
   taken_one old new now message (Ok None) same done = absurd done
   taken_one old new now message (Ok (Some (taken.Send number sms))) same done =
       inl (passes_stays (took now (Ok (Some (taken.Send number sms)))) old new (Took link message now) done.3 refl)
   taken_one old new now message (Ok (Some (taken.Expired number))) same done = inr (record {
     kept = expired rules link now message;
     outcome = Ok done.2;
-    does_ = subst (λ (r : Rules). Performs tells story faults calls old (expired r link now message) (Ok done.2) new) same done.3;
+    does_ = subst (λ (r : Rules). Performs meaning old (expired r link now message) (Ok done.2) new) same done.3;
     records = ap (λ (n : ℕ). expired rules link now n ∷ []) done.1;
     asked = (message, refl);
     failed = refl;
@@ -119,7 +120,7 @@ module _ {D : Type 0} (tells : Bool) (story : D → Story) (faults calls : D →
   none_stays now outcome is = subst (λ (o : Result (Option Taken) Refusal). recorded_by rules link (took now o) ≡ []) (sym is) refl
 
   taken_next : (old new : Store D) (now : ℕ) (found : Option ℕ) (outcome : Result (Option Taken) Refusal) → rules_in old ≡ rules
-      → TakesNext tells story faults calls old link now found outcome new → Stays (took now outcome) old new ⊎ Moves (took now outcome) old new
+      → TakesNext meaning old link now found outcome new → Stays (took now outcome) old new ⊎ Moves (took now outcome) old new
   taken_next old new now None outcome same done = inl (same_stays (took now outcome) old new done.1 (none_stays now outcome done.0))
   taken_next old new now (Some message) outcome same done = taken_one old new now message outcome same done
 
@@ -239,11 +240,11 @@ module _ {D : Type 0} (tells : Bool) (story : D → Story) (faults calls : D →
     record Behind (deeds : List Deed) (store : Store D) : Type 0 where
       pub ruled : rules_in store ≡ rules
       pub born : birth_in store ≡ birth
-      pub holds : IsStore tells story store birth (entries ++ recorded_in rules link deeds)
+      pub holds : IsStore meaning store birth (entries ++ recorded_in rules link deeds)
       pub doubt : IfSome (unsure_in store) (IsInDoubt rules link deeds)
-      pub amid : OnTrue tells (LeavesOnly first (story (disk_in store)) (ReopensAmid rules link birth entries deeds))
-      pub rose : IfSome (unsure_in store) (λ _. Rose 0 (faults (disk_in store)))
-      pub bounded : calls (disk_in store) ≤ made + 6 * length deeds
+      pub amid : OnTrue meaning.tells (LeavesOnly first (meaning.story (disk_in store)) (ReopensAmid rules link birth entries deeds))
+      pub rose : IfSome (unsure_in store) (λ _. Rose 0 (meaning.faults (disk_in store)))
+      pub bounded : meaning.calls (disk_in store) ≤ made + 6 * length deeds
 
     more_entries : (deeds : List Deed) (deed : Deed) (es : List Recorded) → recorded_by rules link deed ≡ es
         → (entries ++ recorded_in rules link deeds) ++ es ≡ entries ++ recorded_in rules link (deed ∷ deeds)
@@ -252,19 +253,19 @@ module _ {D : Type 0} (tells : Bool) (story : D → Story) (faults calls : D →
     behind_still : (deeds : List Deed) (deed : Deed) (old new : Store D) → Behind deeds old → Stays deed old new → Behind (deed ∷ deeds) new
     behind_still deeds deed old new was stays =
         let fewer = was.bounded in
-        let same : calls (disk_in new) ≡ calls (disk_in old) = ap calls stays.disk in
+        let same : meaning.calls (disk_in new) ≡ meaning.calls (disk_in old) = ap calls stays.disk in
         record {
           ruled = stays.ruled ∙ was.ruled;
           born = stays.born ∙ was.born;
-          holds = subst (λ x. IsStore tells story new birth x) (sym (append-nil (entries ++ recorded_in rules link deeds)) ∙ more_entries deeds deed [] stays.none)
+          holds = subst (λ x. IsStore meaning new birth x) (sym (append-nil (entries ++ recorded_in rules link deeds)) ∙ more_entries deeds deed [] stays.none)
               (stays.holds birth (entries ++ recorded_in rules link deeds) was.holds);
           doubt = still_doubt deeds deed (unsure_in new) stays.none
               (subst (λ (u : Option Recorded). IfSome u (IsInDoubt rules link deeds)) (sym stays.unsure) was.doubt);
-          amid = told_leaves_weaker tells first (story (disk_in new)) (ReopensAmid rules link birth entries deeds) (ReopensAmid rules link birth entries (deed ∷ deeds))
+          amid = told_leaves_weaker tells first (meaning.story (disk_in new)) (ReopensAmid rules link birth entries deeds) (ReopensAmid rules link birth entries (deed ∷ deeds))
               (still_amid birth entries deeds deed)
-              (subst (λ (d : D). OnTrue tells (LeavesOnly first (story d) (ReopensAmid rules link birth entries deeds))) (sym stays.disk) was.amid);
+              (subst (λ (d : D). OnTrue meaning.tells (LeavesOnly first (story d) (ReopensAmid rules link birth entries deeds))) (sym stays.disk) was.amid);
           rose = subst (λ (d : D). IfSome (unsure_in new) (λ _. Rose 0 (faults d))) (sym stays.disk)
-              (subst (λ (u : Option Recorded). IfSome u (λ _. Rose 0 (faults (disk_in old)))) (sym stays.unsure) was.rose);
+              (subst (λ (u : Option Recorded). IfSome u (λ _. Rose 0 (meaning.faults (disk_in old)))) (sym stays.unsure) was.rose);
           bounded = omega (arith, fewer, same);
         }
 
@@ -277,23 +278,23 @@ module _ {D : Type 0} (tells : Bool) (story : D → Story) (faults calls : D →
         record {
           ruled = moves.does_.ruled ∙ was.ruled;
           born = moves.does_.born ∙ was.born;
-          holds = subst (λ x. IsStore tells story new birth x) (more_entries deeds deed (put_behind moves.kept moves.outcome) moves.records)
+          holds = subst (λ x. IsStore meaning new birth x) (more_entries deeds deed (put_behind moves.kept moves.outcome) moves.records)
               (moves.does_.holds birth (entries ++ recorded_in rules link deeds) was.holds);
           doubt = now_doubt deeds deed (unsure_in old) (unsure_in new) moves.kept moves.outcome moves.records moves.asked moves.failed was.doubt moves.does_.unsure;
-          amid = told_leaves_both tells first (story (disk_in old)) (story (disk_in new)) (ReopensAmid rules link birth entries (deed ∷ deeds))
-              (told_leaves_weaker tells first (story (disk_in old)) (ReopensAmid rules link birth entries deeds) (ReopensAmid rules link birth entries (deed ∷ deeds))
+          amid = told_leaves_both tells first (meaning.story (disk_in old)) (meaning.story (disk_in new)) (ReopensAmid rules link birth entries (deed ∷ deeds))
+              (told_leaves_weaker tells first (meaning.story (disk_in old)) (ReopensAmid rules link birth entries deeds) (ReopensAmid rules link birth entries (deed ∷ deeds))
               (still_amid birth entries deeds deed) was.amid)
-              (told_leaves_weaker tells (story (disk_in old)) (story (disk_in new)) (MayReopenIn (birth_in old) (rules_in old) (state_in old) (unsure_in old) moves.kept)
+              (told_leaves_weaker tells (meaning.story (disk_in old)) (meaning.story (disk_in new)) (MayReopenIn (birth_in old) (rules_in old) (state_in old) (unsure_in old) moves.kept)
               (ReopensAmid rules link birth entries (deed ∷ deeds))
               (in_call birth entries deeds deed (birth_in old) (rules_in old) (state_in old) (unsure_in old) moves.kept was.born was.ruled settled was.doubt moves.asked) moves.does_.stops);
-          rose = rose_now (unsure_in old) (unsure_in new) moves.kept moves.outcome (faults (disk_in old)) (faults (disk_in new)) was.rose moves.does_.unsure moves.does_.counted;
+          rose = rose_now (unsure_in old) (unsure_in new) moves.kept moves.outcome (meaning.faults (disk_in old)) (meaning.faults (disk_in new)) was.rose moves.does_.unsure moves.does_.counted;
           bounded = omega (arith, fewer, one);
         }
 
     behind_one : (deeds : List Deed) (deed : Deed) (old new : Store D) → Behind deeds old → Stays deed old new ⊎ Moves deed old new → Behind (deed ∷ deeds) new
     behind_one deeds deed old new was which = ⊎_elim (behind_still deeds deed old new was) (behind_moved deeds deed old new was) which
 
-    behind_all : (deeds : List Deed) (opened closed : Store D) → Behind [] opened → Leads tells story faults calls link opened deeds closed → Behind deeds closed
+    behind_all : (deeds : List Deed) (opened closed : Store D) → Behind [] opened → Leads meaning link opened deeds closed → Behind deeds closed
     behind_all [] opened closed begun led = subst (Behind []) (sym led) begun
     behind_all (performed kept outcome ∷ deeds) opened closed begun led =
         behind_one deeds (performed kept outcome) led.0 closed (behind_all deeds opened led.0 begun led.1)
@@ -308,17 +309,17 @@ module _ {D : Type 0} (tells : Bool) (story : D → Story) (faults calls : D →
 
   -- what became of a store that was opened on a new disk of the house, and closed
   pub kept_by : (areas : Areas) (word : Option ℕ) (birth : ℕ) (found : D) (opened closed : Store D) (deeds : List Deed) (disk : D)
-      → IsToldWord word birth → IsHouseDisk tells story faults calls areas found → IsOpened tells story faults calls found rules birth opened
-      → Leads tells story faults calls link opened deeds closed → IsOf link [] false (state_in closed) → disk ≡ disk_in closed
-      → ClosesAs tells story faults calls closed disk → ClosesTo tells story faults calls closed disk
-      → IsKept tells story faults calls rules link areas word deeds disk (unsure_in closed)
+      → IsToldWord word birth → IsHouseDisk meaning areas found → IsOpened meaning found rules birth opened
+      → Leads meaning link opened deeds closed → IsOf link [] false (state_in closed) → disk ≡ disk_in closed
+      → ClosesAs meaning closed disk → ClosesTo meaning closed disk
+      → IsKept meaning rules link areas word deeds disk (unsure_in closed)
   kept_by areas word birth found opened closed deeds disk told new_disk is led left same closes_as closes_to =
       let begun : Behind (birth_in opened) is.entries (untold areas) 20 [] opened = record {
         ruled = is.ruled;
         born = refl;
-        holds = subst (λ es. IsStore tells story opened (birth_in opened) es) (sym (append-nil is.entries)) is.holds;
+        holds = subst (λ es. IsStore meaning opened (birth_in opened) es) (sym (append-nil is.entries)) is.holds;
         doubt = subst (λ (u : Option Recorded). IfSome u (IsInDoubt rules link [])) (sym is.sure) tt;
-        amid = told_leaves_weaker tells (untold areas) (story (disk_in opened)) (ReopensTo rules (state_of (birth_in opened) rules is.entries)) (ReopensAmid rules link (birth_in opened) is.entries [])
+        amid = told_leaves_weaker tells (untold areas) (meaning.story (disk_in opened)) (ReopensTo rules (state_of (birth_in opened) rules is.entries)) (ReopensAmid rules link (birth_in opened) is.entries [])
             (λ image reopens. record {
               front = [];
               since = [];
@@ -326,9 +327,9 @@ module _ {D : Type 0} (tells : Bool) (story : D → Story) (faults calls : D →
               more = None;
               doubt = tt;
               reopens = subst (λ es. ReopensTo rules (state_of (birth_in opened) rules es) image) (sym (append-nil is.entries)) reopens;
-            }) (opened_stops tells story faults calls areas found rules birth opened new_disk is);
-        rose = subst (λ (u : Option Recorded). IfSome u (λ _. Rose 0 (faults (disk_in opened)))) (sym is.sure) tt;
-        bounded = let few = opened_calls tells story faults calls areas found rules birth opened new_disk is in omega (arith, few);
+            }) (opened_stops meaning areas found rules birth opened new_disk is);
+        rose = subst (λ (u : Option Recorded). IfSome u (λ _. Rose 0 (meaning.faults (disk_in opened)))) (sym is.sure) tt;
+        bounded = let few = opened_calls meaning areas found rules birth opened new_disk is in omega (arith, few);
       } in
       let behind = behind_all (birth_in opened) is.entries (untold areas) 20 deeds opened closed begun led in
       let all = is.entries ++ recorded_in rules link deeds in
@@ -337,7 +338,7 @@ module _ {D : Type 0} (tells : Bool) (story : D → Story) (faults calls : D →
       record {
         birth = birth_in opened;
         entries = is.entries;
-        found = found_by tells story faults calls areas found rules birth opened new_disk is word told;
+        found = found_by meaning areas found rules birth opened new_disk is word told;
         opened = opened;
         closed = closed;
         ruled = is.ruled;
@@ -355,7 +356,7 @@ module _ {D : Type 0} (tells : Bool) (story : D → Story) (faults calls : D →
             (subst (λ b. MayReopen b (rules_in closed) (state_in closed) (unsure_in closed) image) behind.born (reopens image here))))
             (closes_to (birth_in opened) all behind.holds);
         reports = subst (λ (r : Rules). HaveReports (birth_in opened) (state_of (birth_in opened) r is.entries) (recorded_in rules link deeds) (state_in closed)) behind.ruled
-            (reports_by tells story closed (birth_in opened) is.entries (recorded_in rules link deeds) behind.holds);
-        amid = subst (λ (d : D). OnTrue tells (LeavesOnly (untold areas) (story d) (ReopensAmid rules link (birth_in opened) is.entries deeds))) (sym same) behind.amid;
-        bounded = let here : calls disk ≡ calls (disk_in closed) = ap calls same in let few = behind.bounded in omega (arith, here, few);
+            (reports_by meaning closed (birth_in opened) is.entries (recorded_in rules link deeds) behind.holds);
+        amid = subst (λ (d : D). OnTrue meaning.tells (LeavesOnly (untold areas) (story d) (ReopensAmid rules link (birth_in opened) is.entries deeds))) (sym same) behind.amid;
+        bounded = let here : calls disk ≡ meaning.calls (disk_in closed) = ap calls same in let few = behind.bounded in omega (arith, here, few);
       }

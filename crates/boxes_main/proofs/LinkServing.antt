@@ -26,8 +26,8 @@ use Rattle.smpp_link.specs.Hearing.{Hears, Refuses}
 use Rattle.smpp_link.specs.Saying.{bind_of}
 use Rattle.smpp_link.specs.Saying as smpp
 use Rattle.smpp_wire.specs.Command.{BindFields}
+use Rattle.store_disk.specs.Meaning.{Meaning}
 use Rattle.store_disk.specs.Disk.{Areas}
-use Rattle.store_disk.specs.Story.{Story}
 use Rattle.boxes_main.specs.Failure.{status_of}
 use Rattle.boxes_main.specs.House.{Rooms, Stock, IsNewDialer, IsToldWord}
 use Rattle.boxes_main.specs.Link.{link_fault, terms_for, said_to, talk_cause, DiskRose, IsHeld, IsUndialled, IsKept}
@@ -71,11 +71,11 @@ left_pasts cause None = refl
 left_pasts cause (Some past) = refl
 
 module _
-    {D C L : Type 0} (tells : Bool) (story : D → Story) (faults calls : D → ℕ) (readings_of : C → Option (List ℕ)) (dealings : L → Dealings)
+    {D C L : Type 0} (meaning : Meaning D) (readings_of : C → Option (List ℕ)) (dealings : L → Dealings)
     (number : ℕ) (centre : LinkSettings) (clock clock_later : C) (dialer dialer_later : L) (store after : Store D) (disk : D) (session : Session BindFields)
     (new_clock : IfSome (readings_of clock) (λ so_far. so_far ≡ [])) (new_dialer : IsNewDialer (dealings dialer))
-    (may : MayBegin tells story session store) (new_session : IsNewSession number centre session)
-    (same : disk ≡ disk_in after) (closes_as : ClosesAs tells story faults calls after disk) (closes_to : ClosesTo tells story faults calls after disk) where
+    (may : MayBegin meaning session store) (new_session : IsNewSession number centre session)
+    (same : disk ≡ disk_in after) (closes_as : ClosesAs meaning after disk) (closes_to : ClosesTo meaning after disk) where
   -- the worker that is left
   abbrev pub worker_left : Option Held → Worker C L
   worker_left held = record { role = role_is.Link number; clock = Some clock_later; dialer = Some dialer_later; ends = ends_by held; pasts = pasts_by held }
@@ -89,11 +89,11 @@ module _
 
   module _
       (rules : Rules) (areas : Areas) (word : Option ℕ) (birth : ℕ) (found : D) (told : IsToldWord word birth)
-      (new_disk : IsHouseDisk tells story faults calls areas found) (is : IsOpened tells story faults calls found rules birth store) where
+      (new_disk : IsHouseDisk meaning areas found) (is : IsOpened meaning found rules birth store) where
     -- no connection was made
-    undialled : CallsNone Hears Refuses smpp.said tells story faults calls (readings_of clock) (readings_of clock_later) store after (dealings dialer) (dealings dialer_later)
+    undialled : CallsNone Hears Refuses smpp.said meaning (readings_of clock) (readings_of clock_later) store after (dealings dialer) (dealings dialer_later)
         → Adds (asked_for centre.host centre.port) (dealings dialer).dials (dealings dialer_later).dials
-        → IsUndialled tells story faults calls readings_of dealings rules number centre areas word (worker_left None ∷ []) (Some disk)
+        → IsUndialled meaning readings_of dealings rules number centre areas word (worker_left None ∷ []) (Some disk)
     undialled none dials = record {
       dialer = dialer_later;
       worker = worker_left None;
@@ -110,19 +110,19 @@ module _
       cause = subst (λ n. Rose n (dealings dialer_later).faults ⊎ ((dealings dialer_later).left ≡ Some 0)) new_dialer.no_faults none.cause;
       after = disk;
       handed_back = refl;
-      kept = subst (λ (u : Option Recorded). IsKept tells story faults calls rules number areas word [] disk u) (ap unsure_in none.undone ∙ is.sure)
-          (kept_by tells story faults calls rules number areas word birth found store after [] disk told new_disk is none.undone
+      kept = subst (λ (u : Option Recorded). IsKept meaning rules number areas word [] disk u) (ap unsure_in none.undone ∙ is.sure)
+          (kept_by meaning rules number areas word birth found store after [] disk told new_disk is none.undone
           (subst (λ (s : Store D). IsOf number [] false (state_in s)) (sym none.undone) of_before) same closes_as closes_to);
     }
 
     -- a fault of the disk is told only where its count rose
-    disk_rose : (unsure : Option Recorded) (cause : EndCause) (heard spoken readings : List ℕ) (deeds : List Deed) → faults (disk_in store) ≡ 0 → IfSome unsure (λ _. Rose 0 (faults disk))
+    disk_rose : (unsure : Option Recorded) (cause : EndCause) (heard spoken readings : List ℕ) (deeds : List Deed) → meaning.faults (disk_in store) ≡ 0 → IfSome unsure (λ _. Rose 0 (faults disk))
         → LinkTalk Hears Refuses (said_to centre) (terms_for number centre) heard spoken readings deeds (talk_cause cause)
-        → Leads tells story faults calls number store deeds after → DiskRose (link_fault (is_some unsure) cause) (faults disk)
+        → Leads meaning number store deeds after → DiskRose (link_fault (is_some unsure) cause) (faults disk)
     disk_rose (Some kept) cause heard spoken readings deeds none rose talk led = rose
     disk_rose None end_is.Disk heard spoken readings deeds none rose talk led =
-        subst (λ (d : D). Rose 0 (faults d)) (sym same) (subst (λ n. Rose n (faults (disk_in after))) none
-        (disk_failed tells story faults calls Hears Refuses (said_to centre) (terms_for number centre) heard spoken readings deeds number store after talk led))
+        subst (λ (d : D). Rose 0 (faults d)) (sym same) (subst (λ n. Rose n (meaning.faults (disk_in after))) none
+        (disk_failed meaning Hears Refuses (said_to centre) (terms_for number centre) heard spoken readings deeds number store after talk led))
     disk_rose None end_is.PeerEnd heard spoken readings deeds none rose talk led = tt
     disk_rose None end_is.PeerFault heard spoken readings deeds none rose talk led = tt
     disk_rose None (end_is.LoginRefused code) heard spoken readings deeds none rose talk led = tt
@@ -138,12 +138,12 @@ module _
     -- a session was held
     held_so : (held : Held) (between : Dealings) → Stays (dealings dialer).pasts between.pasts
         → Adds (asked_for centre.host centre.port) (dealings dialer).dials (dealings dialer_later).dials
-        → HoldsWith Hears Refuses smpp.said tells story faults calls (bind_of centre) (terms_for number centre) (readings_of clock) (readings_of clock_later) store after
+        → HoldsWith Hears Refuses smpp.said meaning (bind_of centre) (terms_for number centre) (readings_of clock) (readings_of clock_later) store after
         between (dealings dialer_later) held
-        → IsHeld tells story faults calls readings_of dealings rules number centre areas word (worker_left (Some held) ∷ []) (Some disk)
+        → IsHeld meaning readings_of dealings rules number centre areas word (worker_left (Some held) ∷ []) (Some disk)
         (link_fault (is_some (unsure_in after)) held.cause)
     held_so held between stays dials holds =
-        let kept = kept_by tells story faults calls rules number areas word birth found store after holds.deeds disk told new_disk is holds.led holds.left same closes_as closes_to in
+        let kept = kept_by meaning rules number areas word birth found store after holds.deeds disk told new_disk is holds.led holds.left same closes_as closes_to in
         record {
           cause = held.cause;
           pieces = holds.pieces;
@@ -173,20 +173,20 @@ module _
           kept = kept;
           failed = refl;
           rose = disk_rose (unsure_in after) held.cause (heard_of holds.pieces) (said_of holds.pieces) holds.readings holds.deeds
-              (opened_unfailed tells story faults calls areas found rules birth store new_disk is) kept.rose holds.talks holds.led;
+              (opened_unfailed meaning areas found rules birth store new_disk is) kept.rose holds.talks holds.led;
         }
 
     -- by what the command fails by
     served_by : (workers : List (Worker C L)) (fault : Option LinkFault)
-        → IsHeld tells story faults calls readings_of dealings rules number centre areas word workers (Some disk) fault
-        → ServedSo tells story faults calls readings_of dealings rules number centre areas word workers (Some disk) (option_map Link fault)
+        → IsHeld meaning readings_of dealings rules number centre areas word workers (Some disk) fault
+        → ServedSo meaning readings_of dealings rules number centre areas word workers (Some disk) (option_map Link fault)
     served_by workers None held = held
     served_by workers (Some fault) held = held
 
     pub served_so : (held : Option Held)
-        → Calls Hears Refuses smpp.said tells story faults calls (bind_of centre) (terms_for number centre) centre (readings_of clock) (readings_of clock_later) store after
+        → Calls Hears Refuses smpp.said meaning (bind_of centre) (terms_for number centre) centre (readings_of clock) (readings_of clock_later) store after
         (dealings dialer) (dealings dialer_later) held
-        → ServedSo tells story faults calls readings_of dealings rules number centre areas word (worker_left held ∷ []) (Some disk)
+        → ServedSo meaning readings_of dealings rules number centre areas word (worker_left held ∷ []) (Some disk)
         (failure_by (is_some (unsure_in after)) held)
     served_so None calls_ = undialled calls_.so calls_.dials
     served_so (Some held) calls_ =
@@ -196,17 +196,17 @@ module _
   pub serves_link_by : {V S O E : Type 0} (old mid new : Rooms V S O E) (before between later : Stock) → mid ≡ old → new ≡ mid → between ≡ before → later ≡ between
       → (status : ℕ) (failure : Option Failure) (held : Option Held) → status ≡ status_of failure → failure ≡ failure_by (is_some (unsure_in after)) held
       → (workers : List (Worker C L)) → workers ≡ worker_left held ∷ []
-      → Calls Hears Refuses smpp.said tells story faults calls (bind_of centre) (terms_for number centre) centre (readings_of clock) (readings_of clock_later) store after
+      → Calls Hears Refuses smpp.said meaning (bind_of centre) (terms_for number centre) centre (readings_of clock) (readings_of clock_later) store after
       (dealings dialer) (dealings dialer_later) held
-      → ServesLink tells story faults calls readings_of dealings number centre old new before later store status failure (Some disk) workers
+      → ServesLink meaning readings_of dealings number centre old new before later store status failure (Some disk) workers
   serves_link_by old mid new before between later first then_ stock_first stock_then status failure held right failed workers left calls_ = record {
     others = then_ ∙ first;
     stock = stock_then ∙ stock_first;
     right = right;
     back = refl;
     served = λ rules areas word birth found told new_disk is.
-        subst (λ (f : Option Failure). ServedSo tells story faults calls readings_of dealings rules number centre areas word workers (Some disk) f) (sym failed)
-        (subst (λ (ws : List (Worker C L)). ServedSo tells story faults calls readings_of dealings rules number centre areas word ws (Some disk)
+        subst (λ (f : Option Failure). ServedSo meaning readings_of dealings rules number centre areas word workers (Some disk) f) (sym failed)
+        (subst (λ (ws : List (Worker C L)). ServedSo meaning readings_of dealings rules number centre areas word ws (Some disk)
         (failure_by (is_some (unsure_in after)) held)) (sym left)
         (served_so rules areas word birth found told new_disk is held calls_));
   }

@@ -29,7 +29,7 @@ use Rattle.link_turn.specs.declared.turned.Turned.TheVariants.{On, Ended}
 use Rattle.link_turn.specs.declared.wish.Wish.TheVariants as wish_is
 use Rattle.link_turn.proofs.TalkingOn.{talks_none, talks_then}
 use Rattle.peer_dialer.specs.Dealings.{Dealings, Parts}
-use Rattle.store_disk.specs.Story.{Story}
+use Rattle.store_disk.specs.Meaning.{Meaning}
 use Rattle.boxes_main.specs.Door.{octets_limit}
 use Rattle.boxes_main.specs.Link.{quiets_limit, talk_cause, RoseBy, IsCounted, IsPast}
 use Rattle.boxes_main.specs.LinkSteps.{behind, end_of, remaining, IsLimit, IsOn, Talked, HoldsWith}
@@ -158,21 +158,21 @@ module _ {C : Type 0} (hears : List ℕ → Heard → Type 0) (refuses : List �
   counted fresh progress (Some limit) end_is.Bye heard spoken readings deeds old new is some none rose fell counts talk = tt
 
   module _
-      {D : Type 0} (tells : Bool) (story : D → Story) (faults calls : D → ℕ)
+      {D : Type 0} (meaning : Meaning D)
       (first now next : Course) (told now_told next_told : Option (List ℕ)) (began store after : Store D) (session later_session : Session C) (progress : Progress)
-      (on : IsOn hears refuses said tells story faults calls core terms first told began session now now_told store progress) (ruled : rules_in after ≡ rules_in store) where
+      (on : IsOn hears refuses said meaning core terms first told began session now now_told store progress) (ruled : rules_in after ≡ rules_in store) where
     -- behind a turn that goes on, a session goes on
     pub goes_on : (heard : ℕ) (stop : Bool) → progress.quiets < quiets_limit → (¬ IsFresh session)
         → CountsTurn (IsFresh session) stop (On heard) now.counts next.counts
-        → Turning tells story faults calls hears refuses said core terms on.later now next now_told next_told store after (On heard) later_session
-        → IsOn hears refuses said tells story faults calls core terms first told began later_session next next_told after (behind progress heard)
+        → Turning meaning hears refuses said core terms on.later now next now_told next_told store after (On heard) later_session
+        → IsOn hears refuses said meaning core terms first told began later_session next next_told after (behind progress heard)
     goes_on heard stop few begun counts turning =
         let len : length turning.later.heard ≡ length on.later.heard + heard = turning.stands.2 in
         let some = on.heard in
         let least = min-le_left (progress.taken + heard) (2 ^ 64 - 1) in
         record {
           later = turning.later;
-          talks = talks_then tells story faults calls (said core) terms.link no_talk on.later turning.later first now next told now_told next_told began store after on.talks turning.talks;
+          talks = talks_then meaning (said core) terms.link no_talk on.later turning.later first now next told now_told next_told began store after on.talks turning.talks;
           stands = turning.stands.0;
           ruled = ruled ∙ on.ruled;
           heard = omega (arith, len, some, least);
@@ -185,11 +185,11 @@ module _ {C : Type 0} (hears : List ℕ → Heard → Type 0) (refuses : List �
         }
 
     -- behind one that doesn't, it was held to its end
-    pub ends_so : (limit : Option Limit) (cause : EndCause) → IsLimit progress limit → IsOpen tells story after
+    pub ends_so : (limit : Option Limit) (cause : EndCause) → IsLimit progress limit → IsOpen meaning after
         → IsOf (terms_of session).link [] false (state_in after)
         → CountsTurn (IsFresh session) (is_some limit) (Ended cause) now.counts next.counts
-        → Turning tells story faults calls hears refuses said core terms on.later now next now_told next_told store after (Ended cause) later_session
-        → Talked hears refuses said tells story faults calls core terms first next told next_told began after (end_of limit cause)
+        → Turning meaning hears refuses said core terms on.later now next now_told next_told store after (Ended cause) later_session
+        → Talked hears refuses said meaning core terms first next told next_told began after (end_of limit cause)
     ends_so limit cause is opened left counts turning =
         let more : turning.later.heard ≡ on.later.heard ++ heard_of turning.talks.pieces = turning.talks.heard in
         let len : length turning.later.heard ≡ length on.later.heard + length (heard_of turning.talks.pieces) =
@@ -198,7 +198,7 @@ module _ {C : Type 0} (hears : List ℕ → Heard → Type 0) (refuses : List �
         let heard : progress.taken ≤ length turning.later.heard = omega (arith, len, some) in
         record {
           later = turning.later;
-          talks = talks_then tells story faults calls (said core) terms.link no_talk on.later turning.later first now next told now_told next_told began store after on.talks turning.talks;
+          talks = talks_then meaning (said core) terms.link no_talk on.later turning.later first now next told now_told next_told began store after on.talks turning.talks;
           whole = at_end turning.later.heard (spoken_in (said core) turning.later) turning.later.readings (deeds_in turning.later.steps) limit cause turning.stands;
           ruled = ruled ∙ on.ruled;
           counted = counted (IsFresh session) progress limit cause turning.later.heard (spoken_in (said core) turning.later) turning.later.readings (deeds_in turning.later.steps)
@@ -210,14 +210,14 @@ module _ {C : Type 0} (hears : List ℕ → Heard → Type 0) (refuses : List �
     -- behind a turn that goes on and isn't counted, a session goes on
     pub goes_first : (heard : ℕ) (stop : Bool)
         → CountsTurn (IsFresh session) stop (On heard) now.counts next.counts
-        → Turning tells story faults calls hears refuses said core terms on.later now next now_told next_told store after (On heard) later_session
-        → IsOn hears refuses said tells story faults calls core terms first told began later_session next next_told after progress
+        → Turning meaning hears refuses said core terms on.later now next now_told next_told store after (On heard) later_session
+        → IsOn hears refuses said meaning core terms first told began later_session next next_told after progress
     goes_first heard stop counts turning =
         let len : length turning.later.heard ≡ length on.later.heard + heard = turning.stands.2 in
         let some = on.heard in
         record {
           later = turning.later;
-          talks = talks_then tells story faults calls (said core) terms.link no_talk on.later turning.later first now next told now_told next_told began store after on.talks turning.talks;
+          talks = talks_then meaning (said core) terms.link no_talk on.later turning.later first now next told now_told next_told began store after on.talks turning.talks;
           stands = turning.stands.0;
           ruled = ruled ∙ on.ruled;
           heard = omega (arith, len, some);
@@ -225,13 +225,13 @@ module _ {C : Type 0} (hears : List ℕ → Heard → Type 0) (refuses : List �
           quiets = rose_kept progress.quiets now.counts.quiets next.counts.quiets on.quiets turning.talks.fell.quiets;
         }
 
-  module _ {D : Type 0} (tells : Bool) (story : D → Story) (faults calls : D → ℕ) (first : Course) (told : Option (List ℕ)) (began : Store D) where
+  module _ {D : Type 0} (meaning : Meaning D) (first : Course) (told : Option (List ℕ)) (began : Store D) where
     -- a session that hasn't begun, with a peer that has made no call
     pub begins_on : (session : Session C) → IsNew core terms session → IsNewCourse first
-        → IsOn hears refuses said tells story faults calls core terms first told began session first told began (record { taken = 0; quiets = 0 })
+        → IsOn hears refuses said meaning core terms first told began session first told began (record { taken = 0; quiets = 0 })
     begins_on session new new_course = record {
       later = no_talk;
-      talks = talks_none tells story faults calls (said core) terms.link no_talk first told began;
+      talks = talks_none meaning (said core) terms.link no_talk first told began;
       stands = subst (λ (p : Phase). StandsIn hears refuses said core terms p wish_is.Listen no_talk session) (sym new.phase) (refl, refl, new);
       ruled = refl;
       heard = omega arith;
@@ -251,9 +251,9 @@ module _ {C : Type 0} (hears : List ℕ → Heard → Type 0) (refuses : List �
 
     -- a session that was held, and whose peer was handed back
     pub holds_by : (now : Course) (now_told : Option (List ℕ)) (store : Store D) (cause : EndCause) (past : Option Past) (before between : Dealings)
-        → IsNewCourse first → Talked hears refuses said tells story faults calls core terms first now told now_told began store cause
+        → IsNewCourse first → Talked hears refuses said meaning core terms first now told now_told began store cause
         → Parts now past before between
-        → HoldsWith hears refuses said tells story faults calls core terms told now_told began store before between (record { cause = cause; past = past })
+        → HoldsWith hears refuses said meaning core terms told now_told began store before between (record { cause = cause; past = past })
     holds_by now now_told store cause past before between new_course talked parts =
         let talks = talked.talks in
         let heard : talked.later.heard ≡ heard_of talks.pieces = talks.heard in

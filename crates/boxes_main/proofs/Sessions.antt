@@ -13,6 +13,7 @@ use Rattle.gate_model.specs.declared.totals.Totals.{Totals}
 use Rattle.sendsms_http.specs.Session.{Talks}
 use Rattle.sendsms_http.specs.declared.http_end.HttpEnd.{HttpEnd}
 use Rattle.store_journal.specs.Area.{stands, unborn}
+use Rattle.store_disk.specs.Meaning.{Meaning}
 use Rattle.store_disk.specs.Disk.{Areas}
 use Rattle.store_disk.specs.Story.{Story, IsImage, LeavesOnly, reads, untold}
 use Rattle.gate_entries.specs.declared.recorded.Recorded.{Recorded}
@@ -42,7 +43,7 @@ use Rattle.boxes_main.proofs.Answered.{talk_done}
 use Rattle.boxes_main.proofs.Doubts.{in_doubt}
 
 -- a fact that follows from three, where something is told
-told_three : (tells : Bool) (P Q R S : Type 0) → (P → Q → R → S) → OnTrue tells P → OnTrue tells Q → OnTrue tells R → OnTrue tells S
+told_three : (tells : Bool) (P Q R S : Type 0) → (P → Q → R → S) → OnTrue meaning.tells P → OnTrue meaning.tells Q → OnTrue meaning.tells R → OnTrue meaning.tells S
 told_three true P Q R S f p q r = f p q r
 told_three false P Q R S f p q r = tt
 
@@ -52,9 +53,9 @@ counted_by before now later deeds none same counts =
     subst (λ n. CountsFaults 0 n deeds) (sym same) (subst (λ n. CountsFaults n now deeds) none counts)
 
 module _
-    {D : Type 0} (tells : Bool) (story : D → Story) (faults calls : D → ℕ)
+    {D : Type 0} (meaning : Meaning D)
     (areas : Areas) (disk : D) (rules : Rules) (birth : ℕ) (store : Store D)
-    (new_disk : IsHouseDisk tells story faults calls areas disk) (is : IsOpened tells story faults calls disk rules birth store) where
+    (new_disk : IsHouseDisk meaning areas disk) (is : IsOpened meaning disk rules birth store) where
   -- each entry came in its turn, by the rules
   turns : AreInTurn (birth_in store) (start rules) is.entries
   turns = subst (λ (r : Rules). AreInTurn (birth_in store) (start r) is.entries) is.ruled is.holds.in_turn
@@ -69,81 +70,81 @@ module _
   }
 
   -- whenever the opening stopped, the areas reopen to the state that it found
-  pub opened_stops : OnTrue tells (LeavesOnly (untold areas) (story (disk_in store)) (ReopensTo rules (state_of (birth_in store) rules is.entries)))
+  pub opened_stops : OnTrue meaning.tells (LeavesOnly (untold areas) (meaning.story (disk_in store)) (ReopensTo rules (state_of (birth_in store) rules is.entries)))
   opened_stops = told_three tells _ _ _ _
-      (λ same stood alike. opening_stops (story disk) (story (disk_in store)) areas rules (birth_in store) is.entries same stood turns alike) new_disk.told is.stood is.stops
+      (λ same stood alike. opening_stops (story disk) (meaning.story (disk_in store)) areas rules (birth_in store) is.entries same stood turns alike) new_disk.told is.stood is.stops
 
   -- no disk call failed, and few were made
-  pub opened_unfailed : faults (disk_in store) ≡ 0
+  pub opened_unfailed : meaning.faults (disk_in store) ≡ 0
   opened_unfailed = is.unfailed ∙ new_disk.no_faults
 
-  pub opened_calls : calls (disk_in store) ≤ 20
-  opened_calls = subst (λ n. calls (disk_in store) ≤ n + 20) new_disk.no_calls is.bounded
+  pub opened_calls : meaning.calls (disk_in store) ≤ 20
+  opened_calls = subst (λ n. meaning.calls (disk_in store) ≤ n + 20) new_disk.no_calls is.bounded
 
-module _ {D : Type 0} (tells : Bool) (story : D → Story) (faults calls : D → ℕ) where
+module _ {D : Type 0} (meaning : Meaning D) where
   -- whatever a stop leaves of a disk that is handed back, by the store that was closed, stands for it
   abbrev pub ClosesAs : Store D → D → Type 0
-  ClosesAs store disk = (birth : ℕ) (entries : List Recorded) → IsStore tells story store birth entries
-      → OnTrue tells ((image : Areas) → IsImage (story disk) image → MayStandFor birth entries (unsure_in store) image)
+  ClosesAs store disk = (birth : ℕ) (entries : List Recorded) → IsStore meaning store birth entries
+      → OnTrue meaning.tells ((image : Areas) → IsImage (story disk) image → MayStandFor birth entries (unsure_in store) image)
 
   -- and reopens to its state
   abbrev pub ClosesTo : Store D → D → Type 0
-  ClosesTo store disk = (birth : ℕ) (entries : List Recorded) → IsStore tells story store birth entries
-      → OnTrue tells ((image : Areas) → IsImage (story disk) image → MayReopen (birth_in store) (rules_in store) (state_in store) (unsure_in store) image)
+  ClosesTo store disk = (birth : ℕ) (entries : List Recorded) → IsStore meaning store birth entries
+      → OnTrue meaning.tells ((image : Areas) → IsImage (story disk) image → MayReopen (birth_in store) (rules_in store) (state_in store) (unsure_in store) image)
 
   -- the session over a store that was opened
   pub session_by : (settings : Settings) (store later : Store D) (old new : Course) (readings : List ℕ) (deeds : List Deed) (end : HttpEnd) (disk : D)
-      → Talks settings octets_limit old new readings deeds end → Leads tells story faults calls store deeds later
-      → CountsFaults (faults (disk_in store)) (faults (disk_in later)) deeds → disk ≡ disk_in later → ClosesAs later disk → ClosesTo later disk
-      → (areas : Areas) (word : Option ℕ) (birth : ℕ) (found : D) → IsToldWord word birth → IsHouseDisk tells story faults calls areas found
-      → IsOpened tells story faults calls found settings.rules birth store
-      → IsSession tells story faults calls settings areas word old new readings end disk (fault_by (is_some (unsure_in later)) end)
+      → Talks settings octets_limit old new readings deeds end → Leads meaning store deeds later
+      → CountsFaults (meaning.faults (disk_in store)) (meaning.faults (disk_in later)) deeds → disk ≡ disk_in later → ClosesAs later disk → ClosesTo later disk
+      → (areas : Areas) (word : Option ℕ) (birth : ℕ) (found : D) → IsToldWord word birth → IsHouseDisk meaning areas found
+      → IsOpened meaning found settings.rules birth store
+      → IsSession meaning settings areas word old new readings end disk (fault_by (is_some (unsure_in later)) end)
   session_by settings store later old new readings deeds end disk talks led counts same closes_as closes_to areas word birth found told new_disk is =
       let rules = settings.rules in
       let birth_there = birth_in store in
       let all = is.entries ++ done_of deeds in
-      let ruled : rules_in later ≡ rules = ruled_on tells story faults calls store later deeds led ∙ is.ruled in
-      let born : birth_in later ≡ birth_there = born_on tells story faults calls store later deeds led in
-      let state : state_in later ≡ state_of birth_there rules all = state_after tells story faults calls birth_there rules is.entries deeds store later refl is.state led in
-      let holds : IsStore tells story later (birth_in store) all = gained tells story faults calls store later deeds led (birth_in store) is.entries is.holds in
+      let ruled : rules_in later ≡ rules = ruled_on meaning store later deeds led ∙ is.ruled in
+      let born : birth_in later ≡ birth_there = born_on meaning store later deeds led in
+      let state : state_in later ≡ state_of birth_there rules all = state_after meaning birth_there rules is.entries deeds store later refl is.state led in
+      let holds : IsStore meaning later (birth_in store) all = gained meaning store later deeds led (birth_in store) is.entries is.holds in
       let sure : IfSome (unsure_in store) (IsInDoubt []) = subst (λ (u : Option Recorded). IfSome u (IsInDoubt [])) (sym is.sure) tt in
-      let calls_more = calls_after tells story faults calls birth_there rules is.entries deeds store later led in
-      let calls_first = opened_calls tells story faults calls areas found rules birth store new_disk is in
+      let calls_more = calls_after meaning birth_there rules is.entries deeds store later led in
+      let calls_first = opened_calls meaning areas found rules birth store new_disk is in
       record {
         birth = birth_in store;
         entries = is.entries;
-        found = found_by tells story faults calls areas found rules birth store new_disk is word told;
+        found = found_by meaning areas found rules birth store new_disk is word told;
         deeds = deeds;
         talks = talks;
-        reasoned = reasoned tells story faults calls birth_there rules (state_of birth_there rules is.entries) store later deeds led refl is.ruled is.state;
+        reasoned = reasoned meaning birth_there rules (state_of birth_there rules is.entries) store later deeds led refl is.ruled is.state;
         stored = ap done_of talks.talk.handed_in ∙ talk_done settings talks.ended talks.talk.kept talks.talk.last talks.talk.kept_each talks.talk.last_one;
         unsure = unsure_in later;
-        doubt = in_doubt [] deeds (unsure_in store) (unsure_in later) sure (doubted tells story faults calls store later deeds led);
+        doubt = in_doubt [] deeds (unsure_in store) (unsure_in later) sure (doubted meaning store later deeds led);
         stands = closes_as (birth_in store) all holds;
-        stops = subst (λ (s : State). OnTrue tells ((image : Areas) → IsImage (story disk) image → MayReopen birth_there rules s (unsure_in later) image)) state
-            (subst (λ (r : Rules). OnTrue tells ((image : Areas) → IsImage (story disk) image → MayReopen birth_there r (state_in later) (unsure_in later) image)) ruled
-            (subst (λ b. OnTrue tells ((image : Areas) → IsImage (story disk) image → MayReopen b (rules_in later) (state_in later) (unsure_in later) image)) born
+        stops = subst (λ (s : State). OnTrue meaning.tells ((image : Areas) → IsImage (story disk) image → MayReopen birth_there rules s (unsure_in later) image)) state
+            (subst (λ (r : Rules). OnTrue meaning.tells ((image : Areas) → IsImage (story disk) image → MayReopen birth_there r (state_in later) (unsure_in later) image)) ruled
+            (subst (λ b. OnTrue meaning.tells ((image : Areas) → IsImage (story disk) image → MayReopen b (rules_in later) (state_in later) (unsure_in later) image)) born
             (closes_to (birth_in store) all holds)));
-        amid = subst (λ (d : D). OnTrue tells (LeavesOnly (untold areas) (story d) (ReopensAmid birth_there rules is.entries deeds))) (sym same)
-            (amid tells story faults calls birth_there rules is.entries deeds (untold areas) [] deeds store later refl refl is.ruled
+        amid = subst (λ (d : D). OnTrue meaning.tells (LeavesOnly (untold areas) (story d) (ReopensAmid birth_there rules is.entries deeds))) (sym same)
+            (amid meaning birth_there rules is.entries deeds (untold areas) [] deeds store later refl refl is.ruled
             (is.state ∙ ap (state_of birth_there rules) (sym (append-nil is.entries))) sure
-            (told_leaves_weaker tells (untold areas) (story (disk_in store)) (ReopensTo rules (state_of birth_there rules is.entries)) (ReopensAmid birth_there rules is.entries deeds)
-            (amid_first birth_there rules is.entries deeds) (opened_stops tells story faults calls areas found rules birth store new_disk is)) led);
-        counted = counted_by (faults (disk_in store)) (faults (disk_in later)) (faults disk) deeds
-            (opened_unfailed tells story faults calls areas found rules birth store new_disk is) (ap faults same) counts;
-        bounded = let here : calls disk ≡ calls (disk_in later) = ap calls same in omega (arith, here, calls_more, calls_first);
+            (told_leaves_weaker tells (untold areas) (meaning.story (disk_in store)) (ReopensTo rules (state_of birth_there rules is.entries)) (ReopensAmid birth_there rules is.entries deeds)
+            (amid_first birth_there rules is.entries deeds) (opened_stops meaning areas found rules birth store new_disk is)) led);
+        counted = counted_by (meaning.faults (disk_in store)) (meaning.faults (disk_in later)) (faults disk) deeds
+            (opened_unfailed meaning areas found rules birth store new_disk is) (ap faults same) counts;
+        bounded = let here : calls disk ≡ meaning.calls (disk_in later) = ap calls same in omega (arith, here, calls_more, calls_first);
         failed = refl;
       }
 
 module _
-    {V S O E D C L : Type 0} (course : O → Course) (tells : Bool) (story : D → Story) (faults calls : D → ℕ) (rules : Rules)
+    {V S O E D C L : Type 0} (course : O → Course) (meaning : Meaning D) (rules : Rules)
     (old new : Rooms V S O E) (before after : Stock) (output : O) (store : Store D) (totals : Totals) (disk : D) (workers : List (Worker C L)) where
   -- what a store counts was printed on the house's output
   pub shows_by : new ≡ record old { output = output } → after ≡ before
       → (status : ℕ) (failure : Option Failure) (fault : Option OutputFault) → status ≡ status_of failure → failure ≡ option_map Output fault → workers ≡ []
       → Prints (show_text totals) fault (course old.output) (course output)
-      → (totals ≡ totals_of (state_in store)) → disk ≡ disk_in store → ClosesAs tells story faults calls store disk
-      → ShowsOne course tells story faults calls rules old new before after store status failure (Some disk) workers
+      → (totals ≡ totals_of (state_in store)) → disk ≡ disk_in store → ClosesAs meaning store disk
+      → ShowsOne course meaning rules old new before after store status failure (Some disk) workers
   shows_by lent stays status failure fault right failed alone prints counted same closes =
       let gave : output ≡ new.output = sym (ap (λ r. r.output) lent) in
       record {
@@ -156,23 +157,23 @@ module _
         shown = λ areas word birth found told new_disk is. record {
           birth = birth_in store;
           entries = is.entries;
-          found = found_by tells story faults calls areas found rules birth store new_disk is word told;
+          found = found_by meaning areas found rules birth store new_disk is word told;
           prints = subst (λ (t : Totals). Prints (show_text t) fault (course old.output) (course new.output)) (counted ∙ ap totals_of is.state)
               (subst (λ (o : O). Prints (show_text totals) fault (course old.output) (course o)) gave prints);
           after = disk;
           handed_back = refl;
-          stands = subst (λ (u : Option Recorded). OnTrue tells ((image : Areas) → IsImage (story disk) image → MayStandFor (birth_in store) is.entries u image)) is.sure
+          stands = subst (λ (u : Option Recorded). OnTrue meaning.tells ((image : Areas) → IsImage (story disk) image → MayStandFor (birth_in store) is.entries u image)) is.sure
               (closes (birth_in store) is.entries is.holds);
-          stops = subst (λ (d : D). OnTrue tells (LeavesOnly (untold areas) (story d) (ReopensTo rules (state_of (birth_in store) rules is.entries)))) (sym same)
-              (opened_stops tells story faults calls areas found rules birth store new_disk is);
-          unfailed = ap faults same ∙ opened_unfailed tells story faults calls areas found rules birth store new_disk is;
-          bounded = subst (λ (d : D). calls d ≤ 20) (sym same) (opened_calls tells story faults calls areas found rules birth store new_disk is);
+          stops = subst (λ (d : D). OnTrue meaning.tells (LeavesOnly (untold areas) (story d) (ReopensTo rules (state_of (birth_in store) rules is.entries)))) (sym same)
+              (opened_stops meaning areas found rules birth store new_disk is);
+          unfailed = ap faults same ∙ opened_unfailed meaning areas found rules birth store new_disk is;
+          bounded = subst (λ (d : D). calls d ≤ 20) (sym same) (opened_calls meaning areas found rules birth store new_disk is);
         };
       }
 
 module _
     {V S O E D C L : Type 0} (course : V → Course)
-    (tells : Bool) (story : D → Story) (faults calls : D → ℕ) (readings_of : C → Option (List ℕ)) (settings : Settings)
+    (meaning : Meaning D) (readings_of : C → Option (List ℕ)) (settings : Settings)
     (old mid new : Rooms V S O E) (before between after : Stock) (peer : V) (store later : Store D) (clock clock_later : C)
     (readings : List ℕ) (deeds : List Deed) (end : HttpEnd) (disk : D) (workers : List (Worker C L)) where
   -- a session that was served on the house's visitor, with a clock of it
@@ -180,10 +181,10 @@ module _
       → (status : ℕ) (failure : Option Failure) → status ≡ status_of failure → failure ≡ option_map Session (fault_by (is_some (unsure_in later)) end)
       → workers ≡ record { role = role_is.Http; clock = Some clock_later; dialer = None; ends = ended_as.Http end ∷ []; pasts = [] } ∷ []
       → IfSome (readings_of clock) (λ so_far. so_far ≡ []) → AddsAll readings (readings_of clock) (readings_of clock_later)
-      → Talks settings octets_limit (course mid.visitor) (course peer) readings deeds end → Leads tells story faults calls store deeds later
-      → CountsFaults (faults (disk_in store)) (faults (disk_in later)) deeds → disk ≡ disk_in later
-      → ClosesAs tells story faults calls later disk → ClosesTo tells story faults calls later disk
-      → ServesOne course tells story faults calls readings_of settings old new before after store status failure (Some disk) workers
+      → Talks settings octets_limit (course mid.visitor) (course peer) readings deeds end → Leads meaning store deeds later
+      → CountsFaults (meaning.faults (disk_in store)) (meaning.faults (disk_in later)) deeds → disk ≡ disk_in later
+      → ClosesAs meaning later disk → ClosesTo meaning later disk
+      → ServesOne course meaning readings_of settings old new before after store status failure (Some disk) workers
   serves_by first lent same stays status failure right failed left new_clock read talks led counts same_disk closes_as closes_to =
       let rooms : new ≡ record old { visitor = peer } = subst (λ (r : Rooms V S O E). new ≡ record r { visitor = peer }) first lent in
       let others : new ≡ record old { visitor = new.visitor } = subst (λ (v : V). new ≡ record old { visitor = v }) (sym (ap (λ r. r.visitor) rooms)) rooms in
@@ -201,7 +202,7 @@ module _
           left = record { role = refl; clock = readings_first readings (readings_of clock) (readings_of clock_later) new_clock read; no_dialer = refl; ends = refl; no_pasts = refl };
           after = disk;
           handed_back = refl;
-          session = session_by tells story faults calls settings store later (course old.visitor) (course new.visitor) readings deeds end disk
+          session = session_by meaning settings store later (course old.visitor) (course new.visitor) readings deeds end disk
               (subst (λ (v : V). Talks settings octets_limit (course old.visitor) (course v) readings deeds end) (sym (ap (λ r. r.visitor) rooms))
               (subst (λ (r : Rooms V S O E). Talks settings octets_limit (course r.visitor) (course peer) readings deeds end) first talks))
               led counts same_disk closes_as closes_to areas word birth found told new_disk is;

@@ -13,8 +13,9 @@ use Rattle.sendsms_http.specs.Session.{Exchange, Talks, with_last}
 use Rattle.sendsms_http.specs.declared.http_end.HttpEnd.{HttpEnd}
 use Rattle.sendsms_http.specs.declared.http_end.HttpEnd.TheVariants as end_is
 use Rattle.route_rules.specs.declared.rules.Rules.{Rules}
+use Rattle.store_disk.specs.Meaning.{Meaning}
 use Rattle.store_disk.specs.Disk.{Areas}
-use Rattle.store_disk.specs.Story.{Story, IsImage, LeavesOnly, untold}
+use Rattle.store_disk.specs.Story.{IsImage, LeavesOnly, untold}
 use Rattle.gate_store.specs.Deeds.{AreReasoned, done_of, entry_of}
 use Rattle.gate_store.specs.Entries.{state_of}
 use Rattle.gate_store.specs.Reopening.{MayReopen, MayStandFor}
@@ -87,7 +88,7 @@ pub record ReopensAmid (birth : ℕ) (rules : Rules) (entries : List Recorded) (
 
 -- ---- a session
 
-module _ {D : Type 0} (tells : Bool) (story : D → Story) (faults calls : D → ℕ) where
+module _ {D : Type 0} (meaning : Meaning D) where
   -- A session that was served by settings over the store that the areas stood for. Each outcome has its reason in the state before
   -- it, by the rules of the settings, and what was done is what was answered 202. Whatever a stop leaves of the disk that is handed back
   -- stands for the store with that behind its entries, or, where one is unsure, for that with it.
@@ -102,14 +103,14 @@ module _ {D : Type 0} (tells : Bool) (story : D → Story) (faults calls : D →
     pub stored : done_of deeds ≡ accepts_in (with_last talks.talk.kept talks.talk.last)
     pub unsure : Option Recorded
     pub doubt : IfSome unsure (IsInDoubt deeds)
-    pub stands : OnTrue tells ((image : Areas) → IsImage (story disk) image → MayStandFor birth (entries ++ done_of deeds) unsure image)
-    pub stops : OnTrue tells ((image : Areas) → IsImage (story disk) image → MayReopen birth settings.rules (state_of birth settings.rules (entries ++ done_of deeds)) unsure image)
-    pub amid : OnTrue tells (LeavesOnly (untold areas) (story disk) (ReopensAmid birth settings.rules entries deeds))
+    pub stands : OnTrue meaning.tells ((image : Areas) → IsImage (story disk) image → MayStandFor birth (entries ++ done_of deeds) unsure image)
+    pub stops : OnTrue meaning.tells ((image : Areas) → IsImage (story disk) image → MayReopen birth settings.rules (state_of birth settings.rules (entries ++ done_of deeds)) unsure image)
+    pub amid : OnTrue meaning.tells (LeavesOnly (untold areas) (story disk) (ReopensAmid birth settings.rules entries deeds))
     pub counted : CountsFaults 0 (faults disk) deeds
     pub bounded : calls disk ≤ 20 + 6 * length deeds
     pub failed : fault ≡ fault_by (is_some unsure) end
 
-module _ {D C L : Type 0} (tells : Bool) (story : D → Story) (faults calls : D → ℕ) (readings_of : C → Option (List ℕ)) where
+module _ {D C L : Type 0} (meaning : Meaning D) (readings_of : C → Option (List ℕ)) where
   -- A session was served, and is all that one worker left.
   pub record IsServed
       (settings : Settings) (areas : Areas) (word : Option ℕ) (old new : Course) (workers : List (Worker C L)) (disk : Option D) (fault : Option SessionFault) : Type 0 where
@@ -120,24 +121,24 @@ module _ {D C L : Type 0} (tells : Bool) (story : D → Story) (faults calls : D
     pub left : IsHttpWorker readings_of worker readings end
     pub after : D
     pub handed_back : disk ≡ Some after
-    pub session : IsSession tells story faults calls settings areas word old new readings end after fault
+    pub session : IsSession meaning settings areas word old new readings end after fault
 
 module _
     {V S O E D C L : Type 0} (course : V → Course) (files : S → Option (List (List ℕ × List ℕ))) (shelf_faults : S → ℕ)
-    (tells : Bool) (story : D → Story) (faults calls : D → ℕ) (readings_of : C → Option (List ℕ)) where
+    (meaning : Meaning D) (readings_of : C → Option (List ℕ)) where
   -- The store of the configuration stood open, on the house's disk under the name that it says, and a session was served over it.
   pub record Serves
       (name : Option (List ℕ)) (old new : Rooms V S O E) (stock : Stock) (workers : List (Worker C L)) (disk : Option D) (fault : Option SessionFault) : Type 0 where
     pub settings : Settings
     pub configured : IsConfigured files shelf_faults name old.shelf new.shelf settings
-    pub served : IsServed tells story faults calls readings_of settings (stock.disks settings.core.store_file) stock.word
+    pub served : IsServed meaning readings_of settings (stock.disks settings.core.store_file) stock.word
         (course old.visitor) (course new.visitor) workers disk fault
 
   -- No store stood open, and no session was served.
   pub record ServesNone
       (name : Option (List ℕ)) (old new : Rooms V S O E) (stock : Stock) (workers : List (Worker C L)) (disk : Option D) (failure : Failure) : Type 0 where
     pub unserved : IsUnserved old.visitor new.visitor workers
-    pub cause : IsNotOpen files shelf_faults tells story faults calls name old.shelf new.shelf stock disk failure
+    pub cause : IsNotOpen files shelf_faults meaning name old.shelf new.shelf stock disk failure
 
   -- what the command comes to, by what went wrong
   abbrev pub ComesTo : (name : Option (List ℕ)) → Rooms V S O E → Rooms V S O E → Stock → List (Worker C L) → Option D → Option Failure → Type 0

@@ -3,8 +3,8 @@ use Rattle.std.specs.Prelude.{◌≡◌, ℕ, ◌<◌, Bool, List, [], Option, o
 use Rattle.std.specs.declared.alloc.Global.{Global}
 use Rattle.kn_base.specs.Course.{Course}
 use Rattle.config_groups.specs.declared.settings.Settings.{Settings}
+use Rattle.store_disk.specs.Meaning.{Meaning}
 use Rattle.store_disk.specs.Disk.{Areas}
-use Rattle.store_disk.specs.Story.{Story}
 use Rattle.gate_store.specs.Store.{IsOpened}
 use Rattle.gate_store.specs.declared.store.Store.{Store}
 use Rattle.boxes_main.specs.Door.{IsServed, ComesTo}
@@ -27,7 +27,7 @@ pub record HasRoom {A B C : Type 0} (ends : Vec A Global) (pasts : Vec B Global)
 
 module _
     {V S O E D C L : Type 0} (course : V → Course)
-    (tells : Bool) (story : D → Story) (faults calls : D → ℕ) (readings_of : C → Option (List ℕ)) where
+    (meaning : Meaning D) (readings_of : C → Option (List ℕ)) where
   -- A session was served over a store.
   pub record ServesOne
       (settings : Settings) (old new : Rooms V S O E) (before after : Stock) (store : Store D)
@@ -37,13 +37,13 @@ module _
     pub right : status ≡ status_of failure
     pub fault : Option SessionFault
     pub failed : failure ≡ option_map Session fault
-    pub served : (areas : Areas) (word : Option ℕ) (birth : ℕ) (found : D) → IsToldWord word birth → IsHouseDisk tells story faults calls areas found
-        → IsOpened tells story faults calls found settings.rules birth store
-        → IsServed tells story faults calls readings_of settings areas word (course old.visitor) (course new.visitor) workers disk fault
+    pub served : (areas : Areas) (word : Option ℕ) (birth : ℕ) (found : D) → IsToldWord word birth → IsHouseDisk meaning areas found
+        → IsOpened meaning found settings.rules birth store
+        → IsServed meaning readings_of settings areas word (course old.visitor) (course new.visitor) workers disk fault
 
 module _
     {V S O E D C L : Type 0} (course : V → Course) (files : S → Option (List (List ℕ × List ℕ))) (shelf_faults : S → ℕ)
-    (tells : Bool) (story : D → Story) (faults calls : D → ℕ) (readings_of : C → Option (List ℕ)) where
+    (meaning : Meaning D) (readings_of : C → Option (List ℕ)) where
   -- The command came to its end, but for what it says of a failure.
   pub record Ends
       (name : Option (List ℕ)) (old new : Rooms V S O E) (before after : Stock)
@@ -51,4 +51,4 @@ module _
     pub others : new ≡ record old { visitor = new.visitor; shelf = new.shelf }
     pub right : status ≡ status_of failure
     pub made : MakesFor disk before after
-    pub comes_to : ComesTo course files shelf_faults tells story faults calls readings_of name old new before workers disk failure
+    pub comes_to : ComesTo course files shelf_faults meaning readings_of name old new before workers disk failure

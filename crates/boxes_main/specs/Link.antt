@@ -26,8 +26,9 @@ use Rattle.route_rules.specs.declared.link_rule.LinkRule.{LinkRule}
 use Rattle.route_rules.specs.declared.rules.Rules.{Rules}
 use Rattle.smpp_link.specs.Hearing.{Hears, Refuses}
 use Rattle.smpp_link.specs.Saying as smpp
+use Rattle.store_disk.specs.Meaning.{Meaning}
 use Rattle.store_disk.specs.Disk.{Areas}
-use Rattle.store_disk.specs.Story.{Story, IsImage, LeavesOnly, untold}
+use Rattle.store_disk.specs.Story.{IsImage, LeavesOnly, untold}
 use Rattle.boxes_main.specs.Door.{octets_limit}
 use Rattle.boxes_main.specs.House.{Rooms, Stock}
 use Rattle.boxes_main.specs.LinkDeeds.{recorded_in, IsInDoubt, ReopensAmid}
@@ -153,7 +154,7 @@ IsPast pieces counts past = (past.pieces ≡ pieces) × (counts ≡ counts_of pa
 
 -- ---- the store
 
-module _ {D : Type 0} (tells : Bool) (story : D → Story) (faults calls : D → ℕ) where
+module _ {D : Type 0} (meaning : Meaning D) where
   -- What became of a store over which a link's deeds were done, from when it was opened, as that of the areas, to when it was closed. Whatever a
   -- stop leaves of the disk that is handed back stands for the store with what they recorded behind its entries, or, where one is unsure, for
   -- that with it. At the end the link holds no message, and is down; and of what they recorded, the reports that are awaited are those that it leaves
@@ -166,16 +167,16 @@ module _ {D : Type 0} (tells : Bool) (story : D → Story) (faults calls : D →
     pub closed : Stored D
     pub ruled : rules_in opened ≡ rules
     pub began : state_in opened ≡ state_of birth rules entries
-    pub led : Leads tells story faults calls number opened deeds closed
+    pub led : Leads meaning number opened deeds closed
     pub left : IsOf number [] false (state_in closed)
     pub back : disk ≡ disk_in closed
     pub unsure_is : unsure ≡ unsure_in closed
     pub doubt : IfSome unsure (IsInDoubt rules number deeds)
     pub rose : IfSome unsure (λ _. Rose 0 (faults disk))
-    pub stands : OnTrue tells ((image : Areas) → IsImage (story disk) image → MayStandFor birth (entries ++ recorded_in rules number deeds) unsure image)
-    pub stops : OnTrue tells ((image : Areas) → IsImage (story disk) image → MayReopen birth rules (state_of birth rules (entries ++ recorded_in rules number deeds)) unsure image)
+    pub stands : OnTrue meaning.tells ((image : Areas) → IsImage (story disk) image → MayStandFor birth (entries ++ recorded_in rules number deeds) unsure image)
+    pub stops : OnTrue meaning.tells ((image : Areas) → IsImage (story disk) image → MayReopen birth rules (state_of birth rules (entries ++ recorded_in rules number deeds)) unsure image)
     pub reports : HaveReports birth (state_of birth rules entries) (recorded_in rules number deeds) (state_in closed)
-    pub amid : OnTrue tells (LeavesOnly (untold areas) (story disk) (ReopensAmid rules number birth entries deeds))
+    pub amid : OnTrue meaning.tells (LeavesOnly (untold areas) (story disk) (ReopensAmid rules number birth entries deeds))
     pub bounded : calls disk ≤ 20 + 6 * length deeds
 
 -- a fault of the disk is told only where its count rose
@@ -194,7 +195,7 @@ module _ {C L : Type 0} (readings_of : C → Option (List ℕ)) (dealings : L �
     pub dialled : IfSome (dealings dialer).dials (λ dials. dials ≡ asked_for centre.host centre.port ∷ [])
     pub told : IfSome (dealings dialer).pasts (λ pasts. pasts ≡ worker.pasts)
 
-module _ {D C L : Type 0} (tells : Bool) (story : D → Story) (faults calls : D → ℕ) (readings_of : C → Option (List ℕ)) (dealings : L → Dealings) where
+module _ {D C L : Type 0} (meaning : Meaning D) (readings_of : C → Option (List ℕ)) (dealings : L → Dealings) where
   -- A session was held, and is all that one worker left.
   pub record IsHeld
       (rules : Rules) (number : ℕ) (centre : LinkSettings) (areas : Areas) (word : Option ℕ) (workers : List (Worker C L)) (disk : Option D) (fault : Option LinkFault) : Type 0 where
@@ -216,7 +217,7 @@ module _ {D C L : Type 0} (tells : Bool) (story : D → Story) (faults calls : D
     pub after : D
     pub handed_back : disk ≡ Some after
     pub unsure : Option Recorded
-    pub kept : IsKept tells story faults calls rules number areas word deeds after unsure
+    pub kept : IsKept meaning rules number areas word deeds after unsure
     pub failed : fault ≡ link_fault (is_some unsure) cause
     pub rose : DiskRose fault (faults after)
 
@@ -233,11 +234,11 @@ module _ {D C L : Type 0} (tells : Bool) (story : D → Story) (faults calls : D
     pub cause : Rose 0 (dealings dialer).faults ⊎ ((dealings dialer).left ≡ Some 0)
     pub after : D
     pub handed_back : disk ≡ Some after
-    pub kept : IsKept tells story faults calls rules number areas word [] after None
+    pub kept : IsKept meaning rules number areas word [] after None
 
 module _
     {S D : Type 0} (files : S → Option (List (List ℕ × List ℕ))) (shelf_faults : S → ℕ)
-    (tells : Bool) (story : D → Story) (faults calls : D → ℕ) where
+    (meaning : Meaning D) where
   -- Why no store stands open, by what went wrong: the words are none of the command's; the configuration was refused, has no link with the id, or
   -- one of a protocol that isn't built, or names no store; or its store wasn't opened on the house's disk under that name, or there was no memory for
   -- it and the session.
@@ -253,7 +254,7 @@ module _
       × (rule.kind ≡ Smpp) × (settings.core.store_file ≡ []) × (disk ≡ None)
   IsNotLinked words old new stock disk (Store fault) =
       (settings : Settings) × (number : ℕ) × (centre : LinkSettings) × IsChosen files shelf_faults words old new settings number centre
-      × IsNoStore tells story faults calls (stock.disks settings.core.store_file) settings.rules disk fault
+      × IsNoStore meaning (stock.disks settings.core.store_file) settings.rules disk fault
   IsNotLinked words old new stock disk (Session fault) = ⊥
   IsNotLinked words old new stock disk Undialled = ⊥
   IsNotLinked words old new stock disk (Link fault) = ⊥
@@ -261,7 +262,7 @@ module _
 
 module _
     {V S O E D C L : Type 0} (files : S → Option (List (List ℕ × List ℕ))) (shelf_faults : S → ℕ)
-    (tells : Bool) (story : D → Story) (faults calls : D → ℕ) (readings_of : C → Option (List ℕ)) (dealings : L → Dealings) where
+    (meaning : Meaning D) (readings_of : C → Option (List ℕ)) (dealings : L → Dealings) where
   -- The link was chosen, the store stood open, on the house's disk under the name that it says, and a session was held over it.
   pub record Holds
       (words : Option (List ℕ × List ℕ)) (old new : Rooms V S O E) (stock : Stock) (workers : List (Worker C L)) (disk : Option D) (fault : Option LinkFault) : Type 0 where
@@ -269,7 +270,7 @@ module _
     pub number : ℕ
     pub centre : LinkSettings
     pub chosen : IsChosen files shelf_faults words old.shelf new.shelf settings number centre
-    pub held : IsHeld tells story faults calls readings_of dealings settings.rules number centre (stock.disks settings.core.store_file) stock.word workers disk fault
+    pub held : IsHeld meaning readings_of dealings settings.rules number centre (stock.disks settings.core.store_file) stock.word workers disk fault
 
   -- The same, but no connection was made.
   pub record DialsNone
@@ -278,13 +279,13 @@ module _
     pub number : ℕ
     pub centre : LinkSettings
     pub chosen : IsChosen files shelf_faults words old.shelf new.shelf settings number centre
-    pub undialled : IsUndialled tells story faults calls readings_of dealings settings.rules number centre (stock.disks settings.core.store_file) stock.word workers disk
+    pub undialled : IsUndialled meaning readings_of dealings settings.rules number centre (stock.disks settings.core.store_file) stock.word workers disk
 
   -- No store stood open, nothing was dialled, and no worker left anything.
   pub record LinksNone
       (words : Option (List ℕ × List ℕ)) (old new : Rooms V S O E) (stock : Stock) (workers : List (Worker C L)) (disk : Option D) (failure : Failure) : Type 0 where
     pub no_worker : workers ≡ []
-    pub cause : IsNotLinked files shelf_faults tells story faults calls words old.shelf new.shelf stock disk failure
+    pub cause : IsNotLinked files shelf_faults meaning words old.shelf new.shelf stock disk failure
 
   -- what the command comes to, by what went wrong
   abbrev pub ComesToLink : (words : Option (List ℕ × List ℕ)) → Rooms V S O E → Rooms V S O E → Stock → List (Worker C L) → Option D → Option Failure → Type 0

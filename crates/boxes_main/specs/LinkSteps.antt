@@ -34,6 +34,7 @@ use Rattle.smpp_link.specs.Saying.{bind_of}
 use Rattle.smpp_link.specs.Saying as smpp
 use Rattle.smpp_link.specs.Tags.{last_tag, next_tag}
 use Rattle.smpp_wire.specs.Command.{BindFields}
+use Rattle.store_disk.specs.Meaning.{Meaning}
 use Rattle.store_disk.specs.Disk.{Areas}
 use Rattle.store_disk.specs.Story.{Story}
 use Rattle.boxes_main.specs.Door.{octets_limit}
@@ -94,13 +95,13 @@ remaining progress = (octets_limit - progress.taken) * (quiets_limit + 1) + (qui
 
 module _
     {C D : Type 0} (hears : List ℕ → Heard → Type 0) (refuses : List ℕ → ℕ → ℕ → Type 0) (said : C → Out → List ℕ)
-    (tells : Bool) (story : D → Story) (faults calls : D → ℕ) where
+    (meaning : Meaning D) where
   -- A session goes on that began over a store and with a peer, which were so then.
   pub record IsOn
       (core : C) (terms : Terms) (first : Course) (told : Option (List ℕ)) (began : Stored D)
       (session : Session C) (now : Course) (now_told : Option (List ℕ)) (store : Stored D) (progress : Progress) : Type 0 where
     pub later : Talk
-    pub talks : TalksOn tells story faults calls (said core) terms.link no_talk later first now told now_told began store
+    pub talks : TalksOn meaning (said core) terms.link no_talk later first now told now_told began store
     pub stands : Stands hears refuses said core terms Listen later session
     pub ruled : rules_in store ≡ rules_in began
     pub heard : progress.taken ≤ length later.heard
@@ -119,11 +120,11 @@ module _
   pub record Talked
       (core : C) (terms : Terms) (first now : Course) (told now_told : Option (List ℕ)) (began store : Stored D) (cause : EndCause) : Type 0 where
     pub later : Talk
-    pub talks : TalksOn tells story faults calls (said core) terms.link no_talk later first now told now_told began store
+    pub talks : TalksOn meaning (said core) terms.link no_talk later first now told now_told began store
     pub whole : LinkTalk hears refuses (said core) terms later.heard (spoken_in (said core) later) later.readings (deeds_in later.steps) (talk_cause cause)
     pub ruled : rules_in store ≡ rules_in began
     pub counted : IsCounted cause (length later.heard) now.counts
-    pub opened : IsOpen tells story store
+    pub opened : IsOpen meaning store
     pub left : IsOf terms.link [] false (state_in store)
 
   -- Whatever it began with, it went on from there to its end.
@@ -148,9 +149,9 @@ module _
     pub counts : Counts
     pub counted : IsCounted held.cause (length (heard_of pieces)) counts
     pub clock : AddsAll readings told now_told
-    pub led : Leads tells story faults calls terms.link store deeds after
+    pub led : Leads meaning terms.link store deeds after
     pub ruled : rules_in after ≡ rules_in store
-    pub opened : IsOpen tells story after
+    pub opened : IsOpen meaning after
     pub left : IsOf terms.link [] false (state_in after)
     pub past_is : IfSome held.past (IsPast pieces counts)
     pub pasts : IfSome now.pasts (λ _. (past : Past) × (held.past ≡ Some past) × Adds past before.pasts now.pasts)
@@ -192,7 +193,7 @@ pub record IsNewSession (number : ℕ) (centre : LinkSettings) (session : Sessio
 
 -- it may have its first turn over a store
 abbrev pub MayBegin : {D : Type 0} → (tells : Bool) → (D → Story) → Session BindFields → Stored D → Type 0
-MayBegin tells story session store = MayTurn last_tag next_tag (λ tag. tag < 2 ^ 32) Smpp Hears Refuses smpp.said tells story session store 0
+MayBegin meaning session store = MayTurn last_tag next_tag (λ tag. tag < 2 ^ 32) Smpp Hears Refuses smpp.said meaning session store 0
 
 -- the first link with the id stands there, and speaks this
 abbrev pub Finds : (id : List ℕ) → List LinkRule → (number : ℕ) → LinkKind → Type 0
@@ -230,24 +231,24 @@ IsChosenIn files shelf_faults name id old new settings number =
     AreSettings settings × Reads files shelf_faults name old new (Ok settings) × Chooses settings id number
 
 module _
-    {D C L : Type 0} (tells : Bool) (story : D → Story) (faults calls : D → ℕ) (readings_of : C → Option (List ℕ)) (dealings : L → Dealings) where
+    {D C L : Type 0} (meaning : Meaning D) (readings_of : C → Option (List ℕ)) (dealings : L → Dealings) where
   -- what was served, by what went wrong
   abbrev pub ServedSo : Rules → (number : ℕ) → LinkSettings → Areas → Option ℕ → List (Worker C L) → Option D → Option Failure → Type 0
-  ServedSo rules number centre areas word workers disk None = IsHeld tells story faults calls readings_of dealings rules number centre areas word workers disk None
+  ServedSo rules number centre areas word workers disk None = IsHeld meaning readings_of dealings rules number centre areas word workers disk None
   ServedSo rules number centre areas word workers disk (Some (Link fault)) =
-      IsHeld tells story faults calls readings_of dealings rules number centre areas word workers disk (Some fault)
-  ServedSo rules number centre areas word workers disk (Some Undialled) = IsUndialled tells story faults calls readings_of dealings rules number centre areas word workers disk
+      IsHeld meaning readings_of dealings rules number centre areas word workers disk (Some fault)
+  ServedSo rules number centre areas word workers disk (Some Undialled) = IsUndialled meaning readings_of dealings rules number centre areas word workers disk
   ServedSo rules number centre areas word workers disk (Some failure) = ⊥
 
   -- what came of opening the store of settings and dialling the centre of a link, by what went wrong
   abbrev pub ChosenSo : Settings → (number : ℕ) → LinkSettings → Stock → List (Worker C L) → Option D → Option Failure → Type 0
   ChosenSo settings number centre stock workers disk (Some (Store fault)) =
-      (workers ≡ []) × IsNoStore tells story faults calls (stock.disks settings.core.store_file) settings.rules disk fault
+      (workers ≡ []) × IsNoStore meaning (stock.disks settings.core.store_file) settings.rules disk fault
   ChosenSo settings number centre stock workers disk failure =
       ServedSo settings.rules number centre (stock.disks settings.core.store_file) stock.word workers disk failure
 
 module _
-    {V S O E D C L : Type 0} (tells : Bool) (story : D → Story) (faults calls : D → ℕ) (readings_of : C → Option (List ℕ)) (dealings : L → Dealings) where
+    {V S O E D C L : Type 0} (meaning : Meaning D) (readings_of : C → Option (List ℕ)) (dealings : L → Dealings) where
   -- A centre was dialled over a store that stood open, and the store was closed.
   pub record ServesLink
       (number : ℕ) (centre : LinkSettings) (old new : Rooms V S O E) (before after : Stock) (store : Stored D)
@@ -257,8 +258,8 @@ module _
     pub right : status ≡ status_of failure
     pub back : is_some disk ≡ true
     pub served : (rules : Rules) (areas : Areas) (word : Option ℕ) (birth : ℕ) (found : D) → IsToldWord word birth
-        → IsHouseDisk tells story faults calls areas found → IsOpened tells story faults calls found rules birth store
-        → ServedSo tells story faults calls readings_of dealings rules number centre areas word workers disk failure
+        → IsHouseDisk meaning areas found → IsOpened meaning found rules birth store
+        → ServedSo meaning readings_of dealings rules number centre areas word workers disk failure
 
   -- The store of settings was opened, and the centre of a link dialled over it; or it wasn't.
   pub record ServesChosen
@@ -267,11 +268,11 @@ module _
     pub others : new ≡ old
     pub right : status ≡ status_of failure
     pub made : MakesFor disk before after
-    pub so : (centre : LinkSettings) → IsLinked settings number centre → ChosenSo tells story faults calls readings_of dealings settings number centre before workers disk failure
+    pub so : (centre : LinkSettings) → IsLinked settings number centre → ChosenSo meaning readings_of dealings settings number centre before workers disk failure
 
 module _
     {V S O E D C L : Type 0} (files : S → Option (List (List ℕ × List ℕ))) (shelf_faults : S → ℕ)
-    (tells : Bool) (story : D → Story) (faults calls : D → ℕ) (readings_of : C → Option (List ℕ)) (dealings : L → Dealings) where
+    (meaning : Meaning D) (readings_of : C → Option (List ℕ)) (dealings : L → Dealings) where
   -- The command came to its end, but for what it says of a failure.
   pub record EndsLink
       (words : Option (List ℕ × List ℕ)) (old new : Rooms V S O E) (before after : Stock)
@@ -279,4 +280,4 @@ module _
     pub others : new ≡ record old { shelf = new.shelf }
     pub right : status ≡ status_of failure
     pub made : MakesFor disk before after
-    pub comes_to : ComesToLink files shelf_faults tells story faults calls readings_of dealings words old new before workers disk failure
+    pub comes_to : ComesToLink files shelf_faults meaning readings_of dealings words old new before workers disk failure

@@ -7,8 +7,8 @@ use Rattle.config_groups.specs.declared.read.ConfigFault.{ConfigFault}
 use Rattle.config_groups.specs.declared.read.ConfigFault.TheVariants.{NoFile}
 use Rattle.config_groups.specs.declared.settings.Settings.{Settings}
 use Rattle.store_journal.specs.Area.{stands, unborn}
+use Rattle.store_disk.specs.Meaning.{Meaning}
 use Rattle.store_disk.specs.Disk.{Areas}
-use Rattle.store_disk.specs.Story.{Story}
 use Rattle.gate_entries.specs.declared.recorded.Recorded.{Recorded}
 use Rattle.gate_store.specs.Entries.{start, AreInTurn, StandsFor}
 use Rattle.route_rules.specs.declared.rules.Rules.{Rules}
@@ -37,7 +37,7 @@ module _ {S : Type 0} (files : S → Option (List (List ℕ × List ℕ))) (faul
     pub reads : IsSomeAnd name (λ name. Reads name old new (Ok settings))
     pub no_store_file : settings.core.store_file ≡ []
 
-module _ {D : Type 0} (tells : Bool) (story : D → Story) (faults calls : D → ℕ) where
+module _ {D : Type 0} (meaning : Meaning D) where
   -- a disk of the house, to which nothing was done yet, and whose areas are the stated ones where they are told
   abbrev pub IsHouseDisk : Areas → D → Type 0
   IsHouseDisk areas disk = IsNewDisk tells (story disk) (calls disk) (faults disk) areas
@@ -46,7 +46,7 @@ module _ {D : Type 0} (tells : Bool) (story : D → Story) (faults calls : D →
   pub record GivesDiskBack (areas : Areas) (rules : Rules) (back : D) (fault : StoreFault) : Type 0 where
     pub disk : D
     pub new_disk : IsHouseDisk areas disk
-    pub gives_back : GivesBack tells story faults calls disk rules back fault
+    pub gives_back : GivesBack meaning disk rules back fault
 
   -- no store was opened on the house's disk, or there was no memory for a disk
   abbrev pub IsNoStore : Areas → Rules → Option D → StoreFault → Type 0
@@ -56,12 +56,12 @@ module _ {D : Type 0} (tells : Bool) (story : D → Story) (faults calls : D →
 -- house's word.
 pub record IsFound (tells : Bool) (areas : Areas) (word : Option ℕ) (rules : Rules) (birth : ℕ) (entries : List Recorded) : Type 0 where
   pub in_turn : AreInTurn birth (start rules) entries
-  pub stood : OnTrue tells (StandsFor (stands areas) birth entries)
-  pub born : OnTrue tells (stands areas ≡ unborn → IsToldWord word birth)
+  pub stood : OnTrue meaning.tells (StandsFor (stands areas) birth entries)
+  pub born : OnTrue meaning.tells (stands areas ≡ unborn → IsToldWord word birth)
 
 module _
     {S D : Type 0} (files : S → Option (List (List ℕ × List ℕ))) (shelf_faults : S → ℕ)
-    (tells : Bool) (story : D → Story) (faults calls : D → ℕ) where
+    (meaning : Meaning D) where
   -- Why no store stands open, by what went wrong: the words are none of the command's; the configuration was refused, or names no
   -- store; or its store wasn't opened on the house's disk under that name.
   abbrev pub IsNotOpen : (name : Option (List ℕ)) → S → S → Stock → Option D → Failure → Type 0
@@ -70,7 +70,7 @@ module _
   IsNotOpen name old new stock disk NoStoreFile = (settings : Settings) × LacksStoreFile files shelf_faults name old new settings × (disk ≡ None)
   IsNotOpen name old new stock disk (Store fault) =
       (settings : Settings) × IsConfigured files shelf_faults name old new settings
-      × IsNoStore tells story faults calls (stock.disks settings.core.store_file) settings.rules disk fault
+      × IsNoStore meaning (stock.disks settings.core.store_file) settings.rules disk fault
   IsNotOpen name old new stock disk (Session fault) = ⊥
   IsNotOpen name old new stock disk (Output fault) = ⊥
   IsNotOpen name old new stock disk NoSuchLink = ⊥

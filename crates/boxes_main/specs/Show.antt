@@ -6,8 +6,9 @@ use Rattle.kn_base.specs.Course.{Course}
 use Rattle.kn_base.specs.Talk.{SaysAll, SaysFront}
 use Rattle.config_groups.specs.declared.settings.Settings.{Settings}
 use Rattle.gate_model.specs.declared.totals.Totals.{Totals}
+use Rattle.store_disk.specs.Meaning.{Meaning}
 use Rattle.store_disk.specs.Disk.{Areas}
-use Rattle.store_disk.specs.Story.{Story, IsImage, LeavesOnly, untold}
+use Rattle.store_disk.specs.Story.{IsImage, LeavesOnly, untold}
 use Rattle.gate_entries.specs.declared.recorded.Recorded.{Recorded}
 use Rattle.gate_model.specs.State.{totals_of}
 use Rattle.gate_store.specs.Entries.{state_of}
@@ -46,7 +47,7 @@ Prints text None old new = SaysAll text old new
 Prints text (Some Failed) old new = (gone : ℕ) × SaysFront text gone old new × Rose old.counts.faults new.counts.faults
 Prints text (Some Memory) old new = (gone : ℕ) × SaysFront text gone old new × Rose old.counts.starved new.counts.starved
 
-module _ {D : Type 0} (tells : Bool) (story : D → Story) (faults calls : D → ℕ) where
+module _ {D : Type 0} (meaning : Meaning D) where
   -- What the store counts that the areas stood for was printed. Whenever it stopped, the areas reopen to the state that counts so, and whatever
   -- a stop leaves of the disk that is handed back stands for the same store.
   pub record IsShown (areas : Areas) (word : Option ℕ) (rules : Rules) (old new : Course) (disk : Option D) (fault : Option OutputFault) : Type 0 where
@@ -56,24 +57,24 @@ module _ {D : Type 0} (tells : Bool) (story : D → Story) (faults calls : D →
     pub prints : Prints (show_text (totals_of (state_of birth rules entries))) fault old new
     pub after : D
     pub handed_back : disk ≡ Some after
-    pub stands : OnTrue tells ((image : Areas) → IsImage (story after) image → MayStandFor birth entries None image)
-    pub stops : OnTrue tells (LeavesOnly (untold areas) (story after) (ReopensTo rules (state_of birth rules entries)))
+    pub stands : OnTrue meaning.tells ((image : Areas) → IsImage (story after) image → MayStandFor birth entries None image)
+    pub stops : OnTrue meaning.tells (LeavesOnly (untold areas) (story after) (ReopensTo rules (state_of birth rules entries)))
     pub unfailed : faults after ≡ 0
     pub bounded : calls after ≤ 20
 
 module _
     {V S O E D : Type 0} (course : O → Course) (files : S → Option (List (List ℕ × List ℕ))) (shelf_faults : S → ℕ)
-    (tells : Bool) (story : D → Story) (faults calls : D → ℕ) where
+    (meaning : Meaning D) where
   -- The store of the configuration stood open, on the house's disk under the name that it says, and its counts were printed.
   pub record Shows (name : Option (List ℕ)) (old new : Rooms V S O E) (stock : Stock) (disk : Option D) (fault : Option OutputFault) : Type 0 where
     pub settings : Settings
     pub configured : IsConfigured files shelf_faults name old.shelf new.shelf settings
-    pub shown : IsShown tells story faults calls (stock.disks settings.core.store_file) stock.word settings.rules (course old.output) (course new.output) disk fault
+    pub shown : IsShown meaning (stock.disks settings.core.store_file) stock.word settings.rules (course old.output) (course new.output) disk fault
 
   -- No store stood open, and nothing was printed.
   pub record ShowsNone (name : Option (List ℕ)) (old new : Rooms V S O E) (stock : Stock) (disk : Option D) (failure : Failure) : Type 0 where
     pub unprinted : new.output ≡ old.output
-    pub cause : IsNotOpen files shelf_faults tells story faults calls name old.shelf new.shelf stock disk failure
+    pub cause : IsNotOpen files shelf_faults meaning name old.shelf new.shelf stock disk failure
 
   -- what the command comes to, by what went wrong
   abbrev pub ComesToShow : (name : Option (List ℕ)) → Rooms V S O E → Rooms V S O E → Stock → Option D → Option Failure → Type 0

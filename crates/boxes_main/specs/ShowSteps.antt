@@ -1,8 +1,8 @@
 -- The steps of `show`. No public clause cites these.
 use Rattle.std.specs.Prelude.{◌≡◌, ℕ, Bool, List, [], Option, option_map}
 use Rattle.kn_base.specs.Course.{Course}
+use Rattle.store_disk.specs.Meaning.{Meaning}
 use Rattle.store_disk.specs.Disk.{Areas}
-use Rattle.store_disk.specs.Story.{Story}
 use Rattle.gate_store.specs.Store.{IsOpened}
 use Rattle.route_rules.specs.declared.rules.Rules.{Rules}
 use Rattle.gate_store.specs.declared.store.Store.{Store}
@@ -16,7 +16,7 @@ use Rattle.boxes_main.specs.declared.failure.Failure.TheVariants.{Output}
 use Rattle.boxes_main.specs.declared.printing.OutputFault.{OutputFault}
 
 module _
-    {V S O E D C L : Type 0} (course : O → Course) (tells : Bool) (story : D → Story) (faults calls : D → ℕ) where
+    {V S O E D C L : Type 0} (course : O → Course) (meaning : Meaning D) where
   -- What a store counts was printed.
   pub record ShowsOne
       (rules : Rules) (old new : Rooms V S O E) (before after : Stock) (store : Store D)
@@ -27,13 +27,13 @@ module _
     pub no_worker : workers ≡ []
     pub fault : Option OutputFault
     pub failed : failure ≡ option_map Output fault
-    pub shown : (areas : Areas) (word : Option ℕ) (birth : ℕ) (found : D) → IsToldWord word birth → IsHouseDisk tells story faults calls areas found
-        → IsOpened tells story faults calls found rules birth store
-        → IsShown tells story faults calls areas word rules (course old.output) (course new.output) disk fault
+    pub shown : (areas : Areas) (word : Option ℕ) (birth : ℕ) (found : D) → IsToldWord word birth → IsHouseDisk meaning areas found
+        → IsOpened meaning found rules birth store
+        → IsShown meaning areas word rules (course old.output) (course new.output) disk fault
 
 module _
     {V S O E D C L : Type 0} (course : O → Course) (files : S → Option (List (List ℕ × List ℕ))) (shelf_faults : S → ℕ)
-    (tells : Bool) (story : D → Story) (faults calls : D → ℕ) where
+    (meaning : Meaning D) where
   -- The command came to its end, but for what it says of a failure.
   pub record EndsShow
       (name : Option (List ℕ)) (old new : Rooms V S O E) (before after : Stock)
@@ -42,4 +42,4 @@ module _
     pub right : status ≡ status_of failure
     pub no_worker : workers ≡ []
     pub made : MakesFor disk before after
-    pub comes_to : ComesToShow course files shelf_faults tells story faults calls name old new before disk failure
+    pub comes_to : ComesToShow course files shelf_faults meaning name old new before disk failure

@@ -65,7 +65,7 @@ pub trait House {
     /// The disk under a name. It has made no call, and nothing of what its areas hold is in doubt.
     fn disk(&mut self, alloc: Global, name: &[u8]) -> Result<Self::D, Memory>
         ensures rooms { rooms self.new ≡ rooms self.old }
-        ensures disk { IfOk result (λ disk. IsNewDisk Self.D.tells (Self.D.story disk) (Self.D.calls disk) (Self.D.faults disk) ((stock self.old).disks name.now)) }
+        ensures disk { IfOk result (λ disk. IsNewDisk Self.D.meaning.tells (Self.D.meaning.story disk) (Self.D.meaning.calls disk) (Self.D.meaning.faults disk) ((stock self.old).disks name.now)) }
         ensures made { OnOk result (MakesOne (stock self.old) (stock self.new)) }
         ensures none { OnErr result (stock self.new ≡ stock self.old) };
 

@@ -136,9 +136,9 @@ fn take_turns<C: LinkCore + Drop, D: Disk, P: Peer, K: Clock>(
     peer: &mut P,
     clock: &mut K,
 ) -> EndCause
-    requires may { MayTurn C.tags C.next_tag C.holds C.kind C.hears C.refuses C.said D.tells D.story session.old store.old (K.latest clock.old) }
+    requires may { MayTurn C.tags C.next_tag C.holds C.kind C.hears C.refuses C.said D.meaning session.old store.old (K.latest clock.old) }
     requires begun { ¬ IsFresh session.old }
-    ensures { steps.EndsBehind C.hears C.refuses C.said D.tells D.story D.faults D.calls session.old (P.course peer.old) (P.course peer.new)
+    ensures { steps.EndsBehind C.hears C.refuses C.said D.meaning session.old (P.course peer.old) (P.course peer.new)
         (K.readings clock.old) (K.readings clock.new) store.old store.new result }
 {
     let mut progress = Progress {
@@ -162,9 +162,9 @@ fn talk<C: LinkCore + Drop, D: Disk, P: Peer, K: Clock>(
     peer: &mut P,
     clock: &mut K,
 ) -> EndCause
-    requires may { MayTurn C.tags C.next_tag C.holds C.kind C.hears C.refuses C.said D.tells D.story session.old store.old (K.latest clock.old) }
+    requires may { MayTurn C.tags C.next_tag C.holds C.kind C.hears C.refuses C.said D.meaning session.old store.old (K.latest clock.old) }
     requires peer { IsNewCourse (P.course peer.old) }
-    ensures { steps.Holds C.hears C.refuses C.said D.tells D.story D.faults D.calls session.old (P.course peer.old) (P.course peer.new)
+    ensures { steps.Holds C.hears C.refuses C.said D.meaning session.old (P.course peer.old) (P.course peer.new)
         (K.readings clock.old) (K.readings clock.new) store.old store.new result }
 {
     match turn_solo(alloc, session, store, peer, clock, false) {
@@ -189,9 +189,9 @@ fn hold<C: LinkCore + Drop, D: Disk, L: Dialer, K: Clock>(
     peer: L::P,
     clock: &mut K,
 ) -> Held
-    requires may { MayTurn C.tags C.next_tag C.holds C.kind C.hears C.refuses C.said D.tells D.story session store.old (K.latest clock.old) }
+    requires may { MayTurn C.tags C.next_tag C.holds C.kind C.hears C.refuses C.said D.meaning session store.old (K.latest clock.old) }
     requires peer { IsNewCourse (L.P.course peer) }
-    ensures { (core : C) → (terms : Terms) → IsNew core terms session → steps.HoldsWith C.hears C.refuses C.said D.tells D.story D.faults D.calls core terms
+    ensures { (core : C) → (terms : Terms) → IsNew core terms session → steps.HoldsWith C.hears C.refuses C.said D.meaning core terms
         (K.readings clock.old) (K.readings clock.new) store.old store.new (L.dealings dialer.old) (L.dealings dialer.new) result }
 {
     let (mut session, mut peer) = (session, peer);
@@ -211,8 +211,8 @@ fn call<C: LinkCore + Drop, D: Disk, L: Dialer, K: Clock>(
     clock: &mut K,
     centre: &LinkSettings,
 ) -> Option<Held>
-    requires may { MayTurn C.tags C.next_tag C.holds C.kind C.hears C.refuses C.said D.tells D.story session store.old (K.latest clock.old) }
-    ensures { (core : C) → (terms : Terms) → IsNew core terms session → steps.Calls C.hears C.refuses C.said D.tells D.story D.faults D.calls core terms centre.now
+    requires may { MayTurn C.tags C.next_tag C.holds C.kind C.hears C.refuses C.said D.meaning session store.old (K.latest clock.old) }
+    ensures { (core : C) → (terms : Terms) → IsNew core terms session → steps.Calls C.hears C.refuses C.said D.meaning core terms centre.now
         (K.readings clock.old) (K.readings clock.new) store.old store.new (L.dealings dialer.old) (L.dealings dialer.new) result }
 {
     match dialer.dial(centre.host.as_slice(), centre.port) {
@@ -309,10 +309,10 @@ pub(crate) fn serve_link<H: House>(
     store: Store<H::D>,
     room: Room<H>,
 ) -> Ended<H>
-    requires may { steps.MayBegin H.D.tells H.D.story session store }
+    requires may { steps.MayBegin H.D.meaning session store }
     requires new_one { steps.IsNewSession link centre.now session }
     requires room { HasRoom room.ends room.pasts room.workers }
-    ensures { steps.ServesLink H.D.tells H.D.story H.D.faults H.D.calls H.C.readings H.Di.dealings link centre.now
+    ensures { steps.ServesLink H.D.meaning H.C.readings H.Di.dealings link centre.now
         (H.rooms house.old) (H.rooms house.new) (H.stock house.old) (H.stock house.new) store
         result.status result.failure result.disk (map worker_of result.workers) }
 {

@@ -108,10 +108,10 @@ pub(crate) fn serve<H: House>(
     opened: Opened<H>,
     room: Room<H>,
 ) -> Ended<H>
-    requires open { IsOpen H.D.tells H.D.story opened.store }
+    requires open { IsOpen H.D.meaning opened.store }
     requires in_range { AreSettings opened.settings }
     requires room { HasRoom room.ends room.pasts room.workers }
-    ensures { ServesOne H.V.course H.D.tells H.D.story H.D.faults H.D.calls H.C.readings opened.settings
+    ensures { ServesOne H.V.course H.D.meaning H.C.readings opened.settings
         (H.rooms house.old) (H.rooms house.new) (H.stock house.old) (H.stock house.new) opened.store
         result.status result.failure result.disk (map worker_of result.workers) }
 {

@@ -10,7 +10,7 @@ use Rattle.link_core.specs.declared.heard.Heard.{Heard}
 use Rattle.link_core.specs.declared.out.Out.{Out}
 use Rattle.route_rules.specs.declared.link_kind.LinkKind.{LinkKind}
 use Rattle.route_rules.specs.declared.rules.Rules.{Rules}
-use Rattle.store_disk.specs.Story.{Story}
+use Rattle.store_disk.specs.Meaning.{Meaning}
 use Rattle.link_turn.specs.Session.{no_talk, IsNew, IsSession, messages, used_by}
 use Rattle.link_turn.specs.SessionSteps.{Stands, StandsIn}
 use Rattle.link_turn.specs.Turn.{IsOf, IsReading, IsLinkOf, MayTurn}
@@ -27,14 +27,14 @@ there_within (first ∷ xs) zero x there = omega arith
 there_within (first ∷ xs) (suc at) x there = let rest = there_within xs at x there in omega (arith, rest)
 
 module _ {C D : Type 0} (tags : ℕ) (next_tag : Option ℕ → ℕ) (holds : ℕ → Type 0) (kind : LinkKind) (hears_so : List ℕ → Heard → Type 0) (refuses : List ℕ → ℕ → ℕ → Type 0) (said : C → Out → List ℕ)
-    (tells : Bool) (story : D → Story) (faults calls : D → ℕ) where
+    (meaning : Meaning D) where
   -- no steps led to it
   pub new_stands : (core : C) (terms : Terms) (session : Session C) → IsNew core terms session → Stands hears_so refuses said core terms Listen no_talk session
   new_stands core terms session new =
       subst (λ (p : Phase). StandsIn hears_so refuses said core terms p Listen no_talk session) (sym new.phase) (refl, refl, new)
 
   pub may_begin : (core : C) (terms : Terms) (session : Session C) (disk : D) (rules : Rules) (birth latest : ℕ) (store : Store D) → IsNew core terms session → IsSession tags next_tag holds session
-      → IsOpened tells story faults calls disk rules birth store → HaveIds rules → IsLinkOf kind terms rules → MayTurn tags next_tag holds kind hears_so refuses said tells story session store latest
+      → IsOpened meaning disk rules birth store → HaveIds rules → IsLinkOf kind terms rules → MayTurn tags next_tag holds kind hears_so refuses said meaning session store latest
   may_begin core terms session disk rules birth latest store new sound opened ids link =
       let unread = new.unread in
       let whole = opened.holds.whole in
@@ -42,7 +42,7 @@ module _ {C D : Type 0} (tags : ℕ) (next_tag : Option ℕ → ℕ) (holds : �
       let there = there_within rules.links terms.link link.rule link.there in
       let same = ap (λ (r : Rules). length r.links) opened.ruled in omega (arith, there, same, whole.ups) in
       let of : IsOf terms.link [] false (state_in store) =
-      settled_is_of rules (state_in store) terms.link (opened_settled tells story faults calls disk rules birth store opened) within in
+      settled_is_of rules (state_in store) terms.link (opened_settled meaning disk rules birth store opened) within in
       record {
         sound = sound;
         led = record { core = core; terms = terms; talk = no_talk; stands = new_stands core terms session new; in_time = All-nil IsReading };

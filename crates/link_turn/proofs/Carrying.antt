@@ -13,7 +13,7 @@ use Rattle.kn_base.specs.Course.{Course}
 use Rattle.link_core.specs.declared.heard.Heard.{Heard}
 use Rattle.link_core.specs.declared.out.Out.{Out}
 use Rattle.route_rules.specs.declared.link_kind.LinkKind.{LinkKind}
-use Rattle.store_disk.specs.Story.{Story}
+use Rattle.store_disk.specs.Meaning.{Meaning}
 use Rattle.link_turn.specs.Back.{held, is_up}
 use Rattle.link_turn.specs.Session.{Talk, IsFresh, IsSession, MayBeRecorded, MayBeCut, deeds_by, heard_by, now_of, terms_of}
 use Rattle.link_turn.specs.SessionSteps.{Stands, StandsIn, StandsOn}
@@ -38,44 +38,44 @@ not_nil : (xs : List ℕ) (x : ℕ) → xs ++ x ∷ [] ≡ [] → ⊥
 not_nil [] x is = cc
 not_nil (y ∷ xs) x is = cc
 
-module _ {C D : Type 0} (tells : Bool) (story : D → Story) (faults calls : D → ℕ)
+module _ {C D : Type 0} (meaning : Meaning D)
     (hears_so : List ℕ → Heard → Type 0) (refuses : List ℕ → ℕ → ℕ → Type 0) (said : C → Out → List ℕ) (core : C) (terms : Terms) where
   -- the store stays open, under its rules
-  stays_open : (link : ℕ) (stop : Bool) (wish : Wish) (given : Given) (old new : Course) (store after : Store D) → IsOpen tells story store
-      → Does tells story faults calls link stop wish given old new store after → StaysOpen tells story faults calls store after
+  stays_open : (link : ℕ) (stop : Bool) (wish : Wish) (given : Given) (old new : Course) (store after : Store D) → IsOpen meaning store
+      → Does meaning link stop wish given old new store after → StaysOpen meaning store after
   stays_open link stop wish_is.Listen given old new store after open_ d = record {
-    opened = subst (IsOpen tells story) (sym d.3) open_;
+    opened = subst (IsOpen meaning) (sym d.3) open_;
     ruled = ap rules_in d.3;
   }
   stays_open link stop (wish_is.Say octets) given old new store after open_ d = record {
-    opened = subst (IsOpen tells story) (sym d.1) open_;
+    opened = subst (IsOpen meaning) (sym d.1) open_;
     ruled = ap rules_in d.1;
   }
-  stays_open link stop (wish_is.Perform kept) given old new store after open_ d = performs_keeps tells story faults calls store after kept d.0 open_ d.2
-  stays_open link stop (wish_is.Pass brief) given old new store after open_ d = passes_keeps tells story faults calls store after brief open_ d.1
-  stays_open link stop (wish_is.TakeNext now) given old new store after open_ d = takes_keeps tells story faults calls store after link now d.0 open_ d.2
+  stays_open link stop (wish_is.Perform kept) given old new store after open_ d = performs_keeps meaning store after kept d.0 open_ d.2
+  stays_open link stop (wish_is.Pass brief) given old new store after open_ d = passes_keeps meaning store after brief open_ d.1
+  stays_open link stop (wish_is.TakeNext now) given old new store after open_ d = takes_keeps meaning store after link now d.0 open_ d.2
   stays_open link stop (wish_is.Over cause) given old new store after open_ d = absurd d
 
   -- what a link holds behind a wish that was done, by the deeds
-  of_done : (link : ℕ) (stop : Bool) (wish : Wish) (given : Given) (deeds : List Deed) (old new : Course) (store after : Store D) → IsOpen tells story store
-      → Does tells story faults calls link stop wish given old new store after → MayDo store wish → IsOne hears_so refuses said core terms wish → link ≡ terms.link
+  of_done : (link : ℕ) (stop : Bool) (wish : Wish) (given : Given) (deeds : List Deed) (old new : Course) (store after : Store D) → IsOpen meaning store
+      → Does meaning link stop wish given old new store after → MayDo store wish → IsOne hears_so refuses said core terms wish → link ≡ terms.link
       → IsOf terms.link (held_in deeds) (up_in deeds) (state_in store)
       → IsOf terms.link (held_in (deeds_by wish given ++ deeds)) (up_in (deeds_by wish given ++ deeds)) (state_in after)
   of_done link stop wish_is.Listen given deeds old new store after open_ d may one same of = subst (λ (s : Store D). IsOf terms.link (held_in deeds) (up_in deeds) (state_in s)) (sym d.3) of
   of_done link stop (wish_is.Say octets) given deeds old new store after open_ d may one same of = subst (λ (s : Store D). IsOf terms.link (held_in deeds) (up_in deeds) (state_in s)) (sym d.1) of
   of_done link stop (wish_is.Perform kept) given deeds old new store after open_ d may one same of =
       subst (λ (g : Given). IsOf terms.link (held_in (deeds_by (wish_is.Perform kept) g ++ deeds)) (up_in (deeds_by (wish_is.Perform kept) g ++ deeds)) (state_in after)) (sym d.1)
-      (of_performed tells story faults calls store after terms.link (held_in deeds) (up_in deeds) kept d.0 one of d.2)
+      (of_performed meaning store after terms.link (held_in deeds) (up_in deeds) kept d.0 one of d.2)
   of_done link stop (wish_is.Pass brief) given deeds old new store after open_ d may one same of =
       subst (λ (g : Given). IsOf terms.link (held_in (deeds_by (wish_is.Pass brief) g ++ deeds)) (up_in (deeds_by (wish_is.Pass brief) g ++ deeds)) (state_in after)) (sym d.0)
-      (of_passed tells story faults calls store after terms.link (held_in deeds) (up_in deeds) brief one of d.1)
+      (of_passed meaning store after terms.link (held_in deeds) (up_in deeds) brief one of d.1)
   of_done link stop (wish_is.TakeNext now) given deeds old new store after open_ d may one same of =
       subst (λ (g : Given). IsOf terms.link (held_in (deeds_by (wish_is.TakeNext now) g ++ deeds)) (up_in (deeds_by (wish_is.TakeNext now) g ++ deeds)) (state_in after)) (sym d.1)
-      (of_takes tells story faults calls store after terms.link now d.0 (held_in deeds) (up_in deeds) open_ may of (subst (λ (l : ℕ). Takes tells story faults calls store l now d.0 after) same d.2))
+      (of_takes meaning store after terms.link now d.0 (held_in deeds) (up_in deeds) open_ may of (subst (λ (l : ℕ). Takes meaning store l now d.0 after) same d.2))
   of_done link stop (wish_is.Over cause) given deeds old new store after open_ d may one same of = absurd d
 
-  pub of_later : (link : ℕ) (stop : Bool) (wish : Wish) (given : Given) (talk later : Talk) (old new : Course) (store after : Store D) → IsOpen tells story store
-      → Does tells story faults calls link stop wish given old new store after → MayDo store wish → IsOne hears_so refuses said core terms wish → link ≡ terms.link
+  pub of_later : (link : ℕ) (stop : Bool) (wish : Wish) (given : Given) (talk later : Talk) (old new : Course) (store after : Store D) → IsOpen meaning store
+      → Does meaning link stop wish given old new store after → MayDo store wish → IsOne hears_so refuses said core terms wish → link ≡ terms.link
       → deeds_in later.steps ≡ deeds_by wish given ++ deeds_in talk.steps → IsOf terms.link (held talk.steps) (is_up talk.steps) (state_in store)
       → IsOf terms.link (held later.steps) (is_up later.steps) (state_in after)
   of_later link stop wish given talk later old new store after open_ d may one same deeds of =
@@ -114,7 +114,7 @@ module _ {C D : Type 0} (tells : Bool) (story : D → Story) (faults calls : D �
   spoke_unheard octets given old new (faulted is gone front not) = ap heard_by is
   spoke_unheard octets given old new (starved is gone front rose) = ap heard_by is
 
-  unheard_by : (link : ℕ) (stop : Bool) (wish : Wish) (given : Given) (old new : Course) (store after : Store D) → Does tells story faults calls link stop wish given old new store after → heard_by given ≡ []
+  unheard_by : (link : ℕ) (stop : Bool) (wish : Wish) (given : Given) (old new : Course) (store after : Store D) → Does meaning link stop wish given old new store after → heard_by given ≡ []
   unheard_by link stop wish_is.Listen given old new store after d = ap heard_by d.0
   unheard_by link stop (wish_is.Say octets) given old new store after d = spoke_unheard octets given old new (spoke_so octets given old new d.0)
   unheard_by link stop (wish_is.Perform kept) given old new store after d = ap heard_by d.1
@@ -124,10 +124,10 @@ module _ {C D : Type 0} (tells : Bool) (story : D → Story) (faults calls : D �
 
   -- before the first wish is done
   pub carries_none : (talk : Talk) (wish : Wish) (s : Session C) (course : Course) (told : Option (List ℕ)) (store : Store D) → Stands hears_so refuses said core terms wish talk s
-      → Carries hears_so refuses said tells story faults calls core terms talk course course told told store store wish s
+      → Carries hears_so refuses said meaning core terms talk course course told told store store wish s
   carries_none talk wish s course told store stands = record {
     later = talk;
-    talks = talks_none tells story faults calls (said core) terms.link talk course told store;
+    talks = talks_none meaning (said core) terms.link talk course told store;
     unheard = refl;
     stands = stands;
     ended = λ cause is. ended_talk hears_so refuses said core terms s.phase wish cause talk s stands is;
@@ -139,21 +139,21 @@ Law {C} hears_so refuses said s given now next after =
     (core : C) → (terms : Terms) → (talk : Talk) → (wish : Wish) → (cut : List ℕ) → Stands hears_so refuses said core terms wish talk s → MayBeCut wish given cut
     → StandsOn hears_so refuses said core terms wish given now cut talk next after
 
-module _ {C D : Type 0} (tells : Bool) (story : D → Story) (faults calls : D → ℕ)
+module _ {C D : Type 0} (meaning : Meaning D)
     (hears_so : List ℕ → Heard → Type 0) (refuses : List ℕ → ℕ → ℕ → Type 0) (said : C → Out → List ℕ) where
   pub carries_on : (core : C) (terms : Terms) (talk : Talk) (stop : Bool) (wish next : Wish) (given : Given) (s after : Session C) (start old new : Course) (told before now_told : Option (List ℕ))
-      (first store later : Store D) (now link : ℕ) → Carries hears_so refuses said tells story faults calls core terms talk start old told before first store wish s
-      → Does tells story faults calls link stop wish given old new store later → link ≡ (terms_of s).link → Adds now before now_told → IsReading now → Law hears_so refuses said s given now next after
-      → Carries hears_so refuses said tells story faults calls core terms talk start new told now_told first later next after
+      (first store later : Store D) (now link : ℕ) → Carries hears_so refuses said meaning core terms talk start old told before first store wish s
+      → Does meaning link stop wish given old new store later → link ≡ (terms_of s).link → Adds now before now_told → IsReading now → Law hears_so refuses said s given now next after
+      → Carries hears_so refuses said meaning core terms talk start new told now_told first later next after
   carries_on core terms talk stop wish next given s after start old new told before now_told first store later now link c d mine adds soon law =
-      let same : link ≡ terms.link = mine ∙ ap (λ (t : Terms). t.link) (terms_same tells story faults calls hears_so refuses said core terms wish c.later s c.stands) in
-      let d' = subst (λ (l : ℕ). Does tells story faults calls l stop wish given old new store later) same d in
-      let cd = comes_done tells story faults calls terms.link stop wish given old new store later d' in
+      let same : link ≡ terms.link = mine ∙ ap (λ (t : Terms). t.link) (terms_same meaning hears_so refuses said core terms wish c.later s c.stands) in
+      let d' = subst (λ (l : ℕ). Does meaning l stop wish given old new store later) same d in
+      let cd = comes_done meaning terms.link stop wish given old new store later d' in
       let on = law core terms c.later wish cd.0 c.stands cd.1.may in
-      let none = unheard_by tells story faults calls hears_so refuses said core terms link stop wish given old new store later d in record {
+      let none = unheard_by meaning hears_so refuses said core terms link stop wish given old new store later d in record {
         later = on.later;
-        talks = talks_then tells story faults calls (said core) terms.link talk c.later on.later start old new told before now_told first store later c.talks
-            (talks_by tells story faults calls (said core) terms.link wish given now cd.0 c.later on.later old new before now_told store later on.goes cd.1 adds soon);
+        talks = talks_then meaning (said core) terms.link talk c.later on.later start old new told before now_told first store later c.talks
+            (talks_by meaning (said core) terms.link wish given now cd.0 c.later on.later old new before now_told store later on.goes cd.1 adds soon);
         unheard = on.goes.heard ∙ ap (λ (xs : List ℕ). c.later.heard ++ xs) none ∙ append-nil c.later.heard ∙ c.unheard;
         stands = on.stands;
         ended = on.ended;
@@ -162,21 +162,21 @@ module _ {C D : Type 0} (tells : Bool) (story : D → Story) (faults calls : D �
   -- ---- what is wished next may be done
 
   pub wishes_on : (tags : ℕ) (next_tag : Option ℕ → ℕ) (holds : ℕ → Type 0) (kind : LinkKind) (stop : Bool) (wish next : Wish) (given : Given) (s after : Session C) (old new : Course)
-      (store later : Store D) (latest now link : ℕ) → Wishes tags next_tag holds kind hears_so refuses said tells story wish s store latest
-      → Does tells story faults calls link stop wish given old new store later → link ≡ (terms_of s).link → IsReading now → IsSession tags next_tag holds after → MayBeRecorded next
+      (store later : Store D) (latest now link : ℕ) → Wishes tags next_tag holds kind hears_so refuses said meaning wish s store latest
+      → Does meaning link stop wish given old new store later → link ≡ (terms_of s).link → IsReading now → IsSession tags next_tag holds after → MayBeRecorded next
       → now_of after ≤ now → Law hears_so refuses said s given now next after
-      → Wishes tags next_tag holds kind hears_so refuses said tells story next after later now
+      → Wishes tags next_tag holds kind hears_so refuses said meaning next after later now
   wishes_on tags next_tag holds kind stop wish next given s after old new store later latest now link w d mine soon sound entry latest_now law =
       let core = w.core in
       let terms = w.terms in
-      let same : link ≡ terms.link = mine ∙ ap (λ (t : Terms). t.link) (terms_same tells story faults calls hears_so refuses said core terms wish w.talk s w.stands) in
-      let may = may_do hears_so refuses said core terms tells story store wish w.talk s w.stands w.entry w.in_time w.sound.well.in_time w.opened w.of in
-      let cd = comes_done tells story faults calls link stop wish given old new store later d in
+      let same : link ≡ terms.link = mine ∙ ap (λ (t : Terms). t.link) (terms_same meaning hears_so refuses said core terms wish w.talk s w.stands) in
+      let may = may_do hears_so refuses said core terms meaning store wish w.talk s w.stands w.entry w.in_time w.sound.well.in_time w.opened w.of in
+      let cd = comes_done meaning link stop wish given old new store later d in
       let on = law core terms w.talk wish cd.0 w.stands cd.1.may in
-      let kept = stays_open tells story faults calls hears_so refuses said core terms link stop wish given old new store later w.opened d in record {
+      let kept = stays_open meaning hears_so refuses said core terms link stop wish given old new store later w.opened d in record {
         sound = sound;
         entry = entry;
-        begun = begun_in tells story faults calls hears_so refuses said core terms now w.talk.readings next on.later after on.goes.readings on.stands;
+        begun = begun_in meaning hears_so refuses said core terms now w.talk.readings next on.later after on.goes.readings on.stands;
         core = core;
         terms = terms;
         talk = on.later;
@@ -186,18 +186,18 @@ module _ {C D : Type 0} (tells : Bool) (story : D → Story) (faults calls : D �
         opened = kept.opened;
         ids = subst HaveIds (sym kept.ruled) w.ids;
         link = subst (IsLinkOf kind terms) (sym kept.ruled) w.link;
-        of = of_later tells story faults calls hears_so refuses said core terms link stop wish given w.talk on.later old new store later w.opened d may.0 may.1 same on.goes.deeds w.of;
+        of = of_later meaning hears_so refuses said core terms link stop wish given w.talk on.later old new store later w.opened d may.0 may.1 same on.goes.deeds w.of;
       }
 
   -- its terms and the store's rules are what they were
   pub terms_on : (tags : ℕ) (next_tag : Option ℕ → ℕ) (holds : ℕ → Type 0) (kind : LinkKind) (stop : Bool) (wish next : Wish) (given : Given) (s after : Session C) (old new : Course)
-      (store later : Store D) (latest now link : ℕ) → Wishes tags next_tag holds kind hears_so refuses said tells story wish s store latest
-      → Does tells story faults calls link stop wish given old new store later → Law hears_so refuses said s given now next after
+      (store later : Store D) (latest now link : ℕ) → Wishes tags next_tag holds kind hears_so refuses said meaning wish s store latest
+      → Does meaning link stop wish given old new store later → Law hears_so refuses said s given now next after
       → (terms_of after ≡ terms_of s) × (rules_in later ≡ rules_in store)
   terms_on tags next_tag holds kind stop wish next given s after old new store later latest now link w d law =
-      let cd = comes_done tells story faults calls link stop wish given old new store later d in
+      let cd = comes_done meaning link stop wish given old new store later d in
       let on = law w.core w.terms w.talk wish cd.0 w.stands cd.1.may in (
-        terms_same tells story faults calls hears_so refuses said w.core w.terms next on.later after on.stands
-            ∙ sym (terms_same tells story faults calls hears_so refuses said w.core w.terms wish w.talk s w.stands),
-        (stays_open tells story faults calls hears_so refuses said w.core w.terms link stop wish given old new store later w.opened d).ruled,
+        terms_same meaning hears_so refuses said w.core w.terms next on.later after on.stands
+            ∙ sym (terms_same meaning hears_so refuses said w.core w.terms wish w.talk s w.stands),
+        (stays_open meaning hears_so refuses said w.core w.terms link stop wish given old new store later w.opened d).ruled,
       )

@@ -6,7 +6,7 @@ use Rattle.kn_base.specs.Count.{Counts, Rose}
 use Rattle.kn_base.specs.Course.{Course, Fails}
 use Rattle.link_core.specs.declared.heard.Heard.{Heard}
 use Rattle.link_core.specs.declared.out.Out.{Out}
-use Rattle.store_disk.specs.Story.{Story}
+use Rattle.store_disk.specs.Meaning.{Meaning}
 use Rattle.link_turn.specs.Session.{Talk}
 use Rattle.link_turn.specs.SessionSteps.{Stands, StandsIn}
 use Rattle.link_turn.specs.TurnSteps.{Does, CountsEnd, CountsCause}
@@ -60,7 +60,7 @@ fault_rose a b fails not =
       | inr starved_ ↦ absurd (not starved_)
     ]
 
-module _ {C D : Type 0} (tells : Bool) (story : D → Story) (faults calls : D → ℕ)
+module _ {C D : Type 0} (meaning : Meaning D)
     (hears_so : List ℕ → Heard → Type 0) (refuses : List ℕ → ℕ → ℕ → Type 0) (said : C → Out → List ℕ) (core : C) (terms : Terms) where
   -- what the session is given moves its cause on
   abbrev Moves : (stop : Bool) → Option EndCause → Counts → Course → Wish → Session C → Type 0
@@ -83,48 +83,48 @@ module _ {C D : Type 0} (tells : Bool) (story : D → Story) (faults calls : D �
       comes_to stop before (cause_in next after.phase) end_is.Memory start new.counts (subst (λ (g : Given). EndsBy s g next after) is ends) none.0 tt
 
   moves_in : (link : ℕ) (stop : Bool) (phase : Phase) (wish : Wish) (given : Given) (talk : Talk) (s after : Session C) (next : Wish) (before : Option EndCause) (start : Counts) (old new : Course) (store later : Store D)
-      → s.phase ≡ phase → StandsIn hears_so refuses said core terms phase wish talk s → Does tells story faults calls link stop wish given old new store later
+      → s.phase ≡ phase → StandsIn hears_so refuses said core terms phase wish talk s → Does meaning link stop wish given old new store later
       → CountsCause stop before (cause_in wish phase) start old.counts → EndsBy s given next after → Moves stop before start new next after
   moves_in link stop Fresh wish given talk s after next before start old new store later pe stands does_ counts ends =
-      let d = subst (λ (w : Wish). Does tells story faults calls link stop w given old new store later) stands.0 does_ in
+      let d = subst (λ (w : Wish). Does meaning link stop w given old new store later) stands.0 does_ in
       let none = subst (λ (w : Wish). CountsCause stop before (cause_in w Fresh) start old.counts) stands.0 counts in
       comes_to stop before (cause_in next after.phase) end_is.Closed start new.counts (subst (λ (g : Given). EndsBy s g next after) d.0 ends) none.0 d.1
   moves_in link stop Listening wish given talk s after next before start old new store later pe stands does_ counts ends =
-      let d = subst (λ (w : Wish). Does tells story faults calls link stop w given old new store later) stands.0 does_ in
+      let d = subst (λ (w : Wish). Does meaning link stop w given old new store later) stands.0 does_ in
       let none = subst (λ (w : Wish). CountsCause stop before (cause_in w Listening) start old.counts) stands.0 counts in
       comes_to stop before (cause_in next after.phase) end_is.Closed start new.counts (subst (λ (g : Given). EndsBy s g next after) d.0 ends) none.0 d.1
   moves_in link stop (phase_is.Saying saying) wish given talk s after next before start old new store later pe stands does_ counts ends =
-      let d = subst (λ (w : Wish). Does tells story faults calls link stop w given old new store later) stands.1 does_ in
+      let d = subst (λ (w : Wish). Does meaning link stop w given old new store later) stands.1 does_ in
       let none = subst (λ (w : Wish). CountsCause stop before (cause_in w (phase_is.Saying saying)) start old.counts) stands.1 counts in
       spoke_moves stop before start (said core stands.0) given old new s after next (spoke_so (said core stands.0) given old new d.0) none ends
   moves_in link stop (phase_is.Recording recording) wish given talk s after next before start old new store later pe stands does_ counts ends =
-      let d = subst (λ (w : Wish). Does tells story faults calls link stop w given old new store later) stands.1 does_ in
+      let d = subst (λ (w : Wish). Does meaning link stop w given old new store later) stands.1 does_ in
       let none = subst (λ (w : Wish). CountsCause stop before (cause_in w (phase_is.Recording recording)) start old.counts) stands.1 counts in
       own_cause stop before (cause_in next after.phase) start new.counts (subst (λ (g : Given). EndsBy s g next after) d.1 ends) none.0 (counts_of old new d.3 ∙ none.1)
   moves_in link stop ComingUp wish given talk s after next before start old new store later pe stands does_ counts ends =
-      let d = subst (λ (w : Wish). Does tells story faults calls link stop w given old new store later) stands.0 does_ in
+      let d = subst (λ (w : Wish). Does meaning link stop w given old new store later) stands.0 does_ in
       let none = subst (λ (w : Wish). CountsCause stop before (cause_in w ComingUp) start old.counts) stands.0 counts in
       let passed_ = subst (λ (g : Given). EndsBy s g next after) d.0 ends in
       own_cause stop before (cause_in next after.phase) start new.counts (subst (λ (p : Phase). EndsBehind p next after) pe passed_) none.0 (counts_of old new d.2 ∙ none.1)
   moves_in link stop (GivingBack message) wish given talk s after next before start old new store later pe stands does_ counts ends =
-      let d = subst (λ (w : Wish). Does tells story faults calls link stop w given old new store later) stands.0 does_ in
+      let d = subst (λ (w : Wish). Does meaning link stop w given old new store later) stands.0 does_ in
       let none = subst (λ (w : Wish). CountsCause stop before (cause_in w (GivingBack message)) start old.counts) stands.0 counts in
       let passed_ = subst (λ (g : Given). EndsBy s g next after) d.0 ends in
       own_cause stop before (cause_in next after.phase) start new.counts (subst (λ (p : Phase). EndsBehind p next after) pe passed_) none.0 (counts_of old new d.2 ∙ none.1)
   moves_in link stop Taking wish given talk s after next before start old new store later pe stands does_ counts ends =
-      let d = subst (λ (w : Wish). Does tells story faults calls link stop w given old new store later) stands.0 does_ in
+      let d = subst (λ (w : Wish). Does meaning link stop w given old new store later) stands.0 does_ in
       let none = subst (λ (w : Wish). CountsCause stop before (cause_in w Taking) start old.counts) stands.0 counts in
       own_cause stop before (cause_in next after.phase) start new.counts (subst (λ (g : Given). EndsBy s g next after) d.1 ends) none.0 (counts_of old new d.3 ∙ none.1)
   moves_in link stop (Leaving cause one) wish given talk s after next before start old new store later pe stands does_ counts ends =
-      let d = subst (λ (w : Wish). Does tells story faults calls link stop w given old new store later) stands.1 does_ in
+      let d = subst (λ (w : Wish). Does meaning link stop w given old new store later) stands.1 does_ in
       let left_ = subst (λ (w : Wish). CountsCause stop before (cause_in w (Leaving cause one)) start old.counts) stands.1 counts in
       let passed_ = subst (λ (g : Given). EndsBy s g next after) d.0 ends in
       stays stop before (cause_in next after.phase) cause start old.counts new.counts left_ (subst (λ (p : Phase). EndsBehind p next after) pe passed_) (counts_of old new d.2)
   moves_in link stop Done wish given talk s after next before start old new store later pe stands does_ counts ends =
-      absurd (subst (λ (w : Wish). Does tells story faults calls link stop w given old new store later) stands.1 does_)
+      absurd (subst (λ (w : Wish). Does meaning link stop w given old new store later) stands.1 does_)
 
   pub moves : (link : ℕ) (stop : Bool) (wish : Wish) (given : Given) (talk : Talk) (s after : Session C) (next : Wish) (before : Option EndCause) (start : Counts) (old new : Course) (store later : Store D)
-      → Stands hears_so refuses said core terms wish talk s → Does tells story faults calls link stop wish given old new store later
+      → Stands hears_so refuses said core terms wish talk s → Does meaning link stop wish given old new store later
       → CountsCause stop before (cause_in wish s.phase) start old.counts → EndsBy s given next after → CountsCause stop before (cause_in next after.phase) start new.counts
   moves link stop wish given talk s after next before start old new store later stands does_ counts ends =
       moves_in link stop s.phase wish given talk s after next before start old new store later refl stands does_ counts ends

@@ -21,7 +21,7 @@ use Rattle.link_core.specs.declared.heard.Heard.{Heard}
 use Rattle.link_core.specs.declared.heard.Heard.TheVariants as heard_is
 use Rattle.link_core.specs.declared.out.Out.{Out}
 use Rattle.link_core.specs.declared.out.Out.TheVariants as out_is
-use Rattle.store_disk.specs.Story.{Story}
+use Rattle.store_disk.specs.Meaning.{Meaning}
 use Rattle.link_turn.specs.Back.{held, is_up, ended_by, IsAmong}
 use Rattle.link_turn.specs.Steps.{Step, times_in, times_of_entry}
 use Rattle.link_turn.specs.Due.{Due, nothing, log_in, come_up, acknowledge, reject, give_back, report, arrive, send, say, over, left, due, entry_for}
@@ -147,26 +147,26 @@ module _ {C : Type 0} (hears_so : List ℕ → Heard → Type 0) (refuses : List
       → MayPass (rules_in store) (state_in store) (Returned message)
   may_return store messages up message of among = held_is_leased terms.link message messages up (state_in store) of among
 
-  may_go_down : {D : Type 0} (tells : Bool) (story : D → Story) (store : Store D) (messages : List ℕ) (up : Bool) (link : ℕ) → IsOpen tells story store → IsOf terms.link messages up (state_in store)
+  may_go_down : {D : Type 0} (meaning : Meaning D) (store : Store D) (messages : List ℕ) (up : Bool) (link : ℕ) → IsOpen meaning store → IsOf terms.link messages up (state_in store)
       → link ≡ terms.link → up ≡ true → messages ≡ [] → MayPass (rules_in store) (state_in store) (Down link)
-  may_go_down tells story store messages up link open_ of same is none =
+  may_go_down meaning store messages up link open_ of same is none =
       subst (λ (l : ℕ). MayPass (rules_in store) (state_in store) (Down l)) (sym same) (
         of.is_up ∙ ap Some is,
-        no_flight terms.link 1 ((state_in store).last_message + 1) (state_in store).waiting (in_order tells story store open_).waiting
+        no_flight terms.link 1 ((state_in store).last_message + 1) (state_in store).waiting (in_order meaning store open_).waiting
             (λ k leased. none_among k (subst (IsAmong k) none ((of.leased k).0 leased))),
       )
 
-  may_leave : {D : Type 0} (tells : Bool) (story : D → Story) (store : Store D) (brief : Passing) (steps : List Step) → IsOpen tells story store → IsOf terms.link (held steps) (is_up steps) (state_in store)
+  may_leave : {D : Type 0} (meaning : Meaning D) (store : Store D) (brief : Passing) (steps : List Step) → IsOpen meaning store → IsOf terms.link (held steps) (is_up steps) (state_in store)
       → MayLeave terms brief steps → MayPass (rules_in store) (state_in store) brief × IsOfThis terms.link brief
-  may_leave tells story store (passing.Returned message) steps open_ of may = (may_return store (held steps) (is_up steps) message of may, tt)
-  may_leave tells story store (passing.Down link) steps open_ of may =
-      (may_go_down tells story store (held steps) (is_up steps) link open_ of may.0 may.1 may.2, may.0)
-  may_leave tells story store (passing.Up link) steps open_ of may = absurd may
-  may_leave tells story store (passing.Took link message time) steps open_ of may = absurd may
-  may_leave tells story store (passing.TookJob job) steps open_ of may = absurd may
-  may_leave tells story store (passing.ReturnedJob job) steps open_ of may = absurd may
-  may_leave tells story store (passing.TookArrival arrival) steps open_ of may = absurd may
-  may_leave tells story store (passing.ReturnedArrival arrival) steps open_ of may = absurd may
+  may_leave meaning store (passing.Returned message) steps open_ of may = (may_return store (held steps) (is_up steps) message of may, tt)
+  may_leave meaning store (passing.Down link) steps open_ of may =
+      (may_go_down meaning store (held steps) (is_up steps) link open_ of may.0 may.1 may.2, may.0)
+  may_leave meaning store (passing.Up link) steps open_ of may = absurd may
+  may_leave meaning store (passing.Took link message time) steps open_ of may = absurd may
+  may_leave meaning store (passing.TookJob job) steps open_ of may = absurd may
+  may_leave meaning store (passing.ReturnedJob job) steps open_ of may = absurd may
+  may_leave meaning store (passing.TookArrival arrival) steps open_ of may = absurd may
+  may_leave meaning store (passing.ReturnedArrival arrival) steps open_ of may = absurd may
 
   -- ---- what a session wishes
 
@@ -182,26 +182,26 @@ module _ {C : Type 0} (hears_so : List ℕ → Heard → Type 0) (refuses : List
   abbrev May : {D : Type 0} → Store D → Wish → Type 0
   May store wish = MayDo store wish × IsOne wish
 
-  may_in : {D : Type 0} (tells : Bool) (story : D → Story) (store : Store D) (phase : Phase) (wish : Wish) (talk : Talk) (session : Session C)
-      → StandsIn hears_so refuses said core terms phase wish talk session → MayBeRecorded wish → All IsReading talk.readings → IsReading session.latest → IsOpen tells story store
+  may_in : {D : Type 0} (meaning : Meaning D) (store : Store D) (phase : Phase) (wish : Wish) (talk : Talk) (session : Session C)
+      → StandsIn hears_so refuses said core terms phase wish talk session → MayBeRecorded wish → All IsReading talk.readings → IsReading session.latest → IsOpen meaning store
       → IsOf terms.link (held talk.steps) (is_up talk.steps) (state_in store) → May store wish
-  may_in tells story store Fresh wish talk session stands good all soon open_ of = subst (May store) (sym stands.0) (tt, tt)
-  may_in tells story store Listening wish talk session stands good all soon open_ of = subst (May store) (sym stands.0) (tt, tt)
-  may_in tells story store (phase_is.Saying saying) wish talk session stands good all soon open_ of = subst (May store) (sym stands.1) (tt, tt)
-  may_in tells story store (phase_is.Recording recording) wish talk session stands good all soon open_ of =
+  may_in meaning store Fresh wish talk session stands good all soon open_ of = subst (May store) (sym stands.0) (tt, tt)
+  may_in meaning store Listening wish talk session stands good all soon open_ of = subst (May store) (sym stands.0) (tt, tt)
+  may_in meaning store (phase_is.Saying saying) wish talk session stands good all soon open_ of = subst (May store) (sym stands.1) (tt, tt)
+  may_in meaning store (phase_is.Recording recording) wish talk session stands good all soon open_ of =
       subst (May store) (sym stands.1)
       (may_record store recording stands.0 talk session (is_up talk.steps) stands.2 (subst MayBeRecorded stands.1 good).0 all of)
-  may_in tells story store ComingUp wish talk session stands good all soon open_ of =
+  may_in meaning store ComingUp wish talk session stands good all soon open_ of =
       subst (May store) (sym stands.0)
       (of.is_up ∙ ap Some (comes_up_down terms talk.steps stands.1.keeps.agrees.each stands.1.due_is), refl)
-  may_in tells story store (GivingBack message) wish talk session stands good all soon open_ of =
+  may_in meaning store (GivingBack message) wish talk session stands good all soon open_ of =
       subst (May store) (sym stands.0) (may_return store (held talk.steps) (is_up talk.steps) message of stands.1.holds.among, tt)
-  may_in tells story store Taking wish talk session stands good all soon open_ of = subst (May store) (sym stands.0) (soon, tt)
-  may_in tells story store (Leaving cause one) wish talk session stands good all soon open_ of =
-      subst (May store) (sym stands.1) (may_leave tells story store stands.0 talk.steps open_ of stands.2.agrees.each.0)
-  may_in tells story store Done wish talk session stands good all soon open_ of = subst (May store) (sym stands.1) (tt, tt)
+  may_in meaning store Taking wish talk session stands good all soon open_ of = subst (May store) (sym stands.0) (soon, tt)
+  may_in meaning store (Leaving cause one) wish talk session stands good all soon open_ of =
+      subst (May store) (sym stands.1) (may_leave meaning store stands.0 talk.steps open_ of stands.2.agrees.each.0)
+  may_in meaning store Done wish talk session stands good all soon open_ of = subst (May store) (sym stands.1) (tt, tt)
 
-  pub may_do : {D : Type 0} (tells : Bool) (story : D → Story) (store : Store D) (wish : Wish) (talk : Talk) (session : Session C)
-      → Stands hears_so refuses said core terms wish talk session → MayBeRecorded wish → All IsReading talk.readings → IsReading session.latest → IsOpen tells story store
+  pub may_do : {D : Type 0} (meaning : Meaning D) (store : Store D) (wish : Wish) (talk : Talk) (session : Session C)
+      → Stands hears_so refuses said core terms wish talk session → MayBeRecorded wish → All IsReading talk.readings → IsReading session.latest → IsOpen meaning store
       → IsOf terms.link (held talk.steps) (is_up talk.steps) (state_in store) → May store wish
-  may_do tells story store wish talk session stands good all soon open_ of = may_in tells story store session.phase wish talk session stands good all soon open_ of
+  may_do meaning store wish talk session stands good all soon open_ of = may_in meaning store session.phase wish talk session stands good all soon open_ of

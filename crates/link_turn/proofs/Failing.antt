@@ -22,7 +22,7 @@ use Rattle.link_core.specs.declared.out.Out.{Out}
 use Rattle.link_core.specs.declared.out.Out.TheVariants as out_is
 use Rattle.link_core.specs.declared.verdict.Verdict.{Verdict}
 use Rattle.link_core.specs.declared.verdict.Verdict.TheVariants.{Good, Temporary, Permanent}
-use Rattle.store_disk.specs.Story.{Story}
+use Rattle.store_disk.specs.Meaning.{Meaning}
 use Rattle.link_turn.specs.Steps.{Step, hears, says, records, passes, takes, leaves, Deed, performed, passed, took, deeds_in}
 use Rattle.link_turn.specs.Back.{open_login, in_use, message_under, before_end}
 use Rattle.link_turn.specs.Due.{Due, nothing, log_in, give_back, send, over, left, due, due_by, due_by_code, due_by_login, due_by_verdict, due_by_said, due_by_entry, due_by_outcome, due_by_taken, answer_to, answer_to_refused}
@@ -169,9 +169,9 @@ with_end (leaves brief ∷ before) any = inr (with_end before any)
 
 -- ---- and then the count rose
 
-module _ {D : Type 0} (tells : Bool) (story : D → Story) (faults calls : D → ℕ) where
+module _ {D : Type 0} (meaning : Meaning D) where
   abbrev faults_of : Store D → ℕ
-  faults_of store = faults (disk_in store)
+  faults_of store = meaning.faults (disk_in store)
 
   counted_on : (by_disk : Bool) (before now : ℕ) → CountsFault by_disk before now → before ≤ now
   counted_on true before now counts = counts.1
@@ -184,10 +184,10 @@ module _ {D : Type 0} (tells : Bool) (story : D → Story) (faults calls : D →
   same_faults : (old new : Store D) → new ≡ old → faults_of old ≤ faults_of new
   same_faults old new same = subst (λ (s : Store D). faults_of old ≤ faults_of s) (sym same) (omega arith)
 
-  passes_faults : (old new : Store D) (brief : Passing) → Passes tells story faults calls old brief new → faults_of old ≤ faults_of new
+  passes_faults : (old new : Store D) (brief : Passing) → Passes meaning old brief new → faults_of old ≤ faults_of new
   passes_faults old new brief done = subst (λ (d : D). faults_of old ≤ faults d) (sym done.disk) (omega arith)
 
-  withheld_faults : (expired : Bool) (old new : Store D) (link now message : ℕ) (refusal : Refusal) → Withholds tells story faults calls expired old link now message refusal new
+  withheld_faults : (expired : Bool) (old new : Store D) (link now message : ℕ) (refusal : Refusal) → Withholds meaning expired old link now message refusal new
       → (faults_of old ≤ faults_of new) × (is_by_disk {T = Option Taken} (Err refusal) ≡ true → Rose (faults_of old) (faults_of new))
   withheld_faults true old new link now message refusal (inl done) =
       (counted_on (is_by_disk {T = Reply} (Err refusal)) (faults_of old) (faults_of new) done.counted, λ is. counted_rose (is_by_disk {T = Reply} (Err refusal)) (faults_of old) (faults_of new) done.counted is)
@@ -196,7 +196,7 @@ module _ {D : Type 0} (tells : Bool) (story : D → Story) (faults calls : D →
   withheld_faults false old new link now message refusal none =
       (same_faults old new none.1, λ is. absurd (let e : false ≡ true = subst (λ (r : Refusal). is_by_disk {T = Option Taken} (Err r) ≡ true) none.0 is in cc))
 
-  taken_one_faults : (old new : Store D) (link now message : ℕ) (outcome : Result (Option Taken) Refusal) → TakesMessage tells story faults calls old link now message outcome new
+  taken_one_faults : (old new : Store D) (link now message : ℕ) (outcome : Result (Option Taken) Refusal) → TakesMessage meaning old link now message outcome new
       → (faults_of old ≤ faults_of new) × (is_by_disk outcome ≡ true → Rose (faults_of old) (faults_of new))
   taken_one_faults old new link now message (Ok None) done = absurd done
   taken_one_faults old new link now message (Ok (Some (taken.Send number sms))) done =
@@ -205,7 +205,7 @@ module _ {D : Type 0} (tells : Bool) (story : D → Story) (faults calls : D →
       (counted_on false (faults_of old) (faults_of new) done.3.counted, λ is. absurd (let e : false ≡ true = is in cc))
   taken_one_faults old new link now message (Err refusal) done = withheld_faults (is_expired message now (state_in old)) old new link now message refusal done
 
-  taken_faults : (old new : Store D) (link now : ℕ) (found : Option ℕ) (outcome : Result (Option Taken) Refusal) → TakesNext tells story faults calls old link now found outcome new
+  taken_faults : (old new : Store D) (link now : ℕ) (found : Option ℕ) (outcome : Result (Option Taken) Refusal) → TakesNext meaning old link now found outcome new
       → (faults_of old ≤ faults_of new) × (is_by_disk outcome ≡ true → Rose (faults_of old) (faults_of new))
   taken_faults old new link now None outcome done =
       (same_faults old new done.1, λ is. absurd (let e : false ≡ true = subst (λ (o : Result (Option Taken) Refusal). is_by_disk o ≡ true) done.0 is in cc))
@@ -218,7 +218,7 @@ module _ {D : Type 0} (tells : Bool) (story : D → Story) (faults calls : D →
   rose_sooner before mid now kept rose = omega (arith, rose, kept)
 
   -- deeds lower no count, and one in which the disk failed raised it
-  pub leads_faults : (link : ℕ) (deeds : List Deed) (old new : Store D) → Leads tells story faults calls link old deeds new → faults_of old ≤ faults_of new
+  pub leads_faults : (link : ℕ) (deeds : List Deed) (old new : Store D) → Leads meaning link old deeds new → faults_of old ≤ faults_of new
   leads_faults link [] old new led = same_faults old new led
   leads_faults link (performed kept outcome ∷ before) old new led =
       let first = leads_faults link before old led.0 led.1 in
@@ -230,7 +230,7 @@ module _ {D : Type 0} (tells : Bool) (story : D → Story) (faults calls : D →
       let first = leads_faults link before old led.0 led.1 in
       let last = (taken_faults led.0 new link now (next (rules_in led.0) (state_in led.0) link now) outcome led.2).0 in omega (arith, first, last)
 
-  pub leads_rose : (link : ℕ) (deeds : List Deed) (old new : Store D) → Leads tells story faults calls link old deeds new → AnyFailed deeds → Rose (faults_of old) (faults_of new)
+  pub leads_rose : (link : ℕ) (deeds : List Deed) (old new : Store D) → Leads meaning link old deeds new → AnyFailed deeds → Rose (faults_of old) (faults_of new)
   leads_rose link [] old new led any = absurd any
   leads_rose link (performed kept outcome ∷ before) old new led (inl failed) =
       rose_sooner (faults_of old) (faults_of led.0) (faults_of new) (leads_faults link before old led.0 led.1)
@@ -249,6 +249,6 @@ module _ {D : Type 0} (tells : Bool) (story : D → Story) (faults calls : D →
 
   -- a session that ended because the disk failed has its disk's count risen
   pub disk_failed : (hears_so : List ℕ → Heard → Type 0) (refuses : List ℕ → ℕ → ℕ → Type 0) (said : Out → List ℕ) (terms : Terms) (heard spoken readings : List ℕ) (deeds : List Deed) (link : ℕ) (old new : Store D)
-      → LinkTalk hears_so refuses said terms heard spoken readings deeds end_is.Disk → Leads tells story faults calls link old deeds new → Rose (faults_of old) (faults_of new)
+      → LinkTalk hears_so refuses said terms heard spoken readings deeds end_is.Disk → Leads meaning link old deeds new → Rose (faults_of old) (faults_of new)
   disk_failed hears_so refuses said terms heard spoken readings deeds link old new talk led =
       leads_rose link deeds old new led (subst AnyFailed (sym talk.done) (with_end talk.steps (by_steps (before_end talk.steps) talk.caused.0)))

@@ -20,7 +20,7 @@ use Rattle.gate_store.specs.Store.{IsOpen, birth_in, rules_in, state_in}
 use Rattle.gate_store.specs.declared.store.Store.{Store}
 use Rattle.gate_store.specs.declared.taken.Taken.{Taken}
 use Rattle.gate_store.specs.declared.taken.Taken.TheVariants as taken
-use Rattle.store_disk.specs.Story.{Story}
+use Rattle.store_disk.specs.Meaning.{Meaning}
 use Rattle.link_turn.specs.Turn.{IsReading}
 use Rattle.link_turn.specs.TurnSteps.{one_free, free_in}
 use Rattle.link_turn.proofs.Holding.{IsOfLink, IsOfThis, next_waits, in_order}
@@ -149,45 +149,45 @@ taken_by (Ok None) = 0
 taken_by (Ok (Some message)) = 1
 taken_by (Err refusal) = 0
 
-module _ {D : Type 0} (tells : Bool) (story : D → Story) (faults calls : D → ℕ) where
+module _ {D : Type 0} (meaning : Meaning D) where
   abbrev pub free_of : Store D → ℕ
   free_of store = free_in (state_in store).waiting
 
-  pub free_performed : (old new : Store D) (kept : Recorded) (outcome : Result Reply Refusal) → IsOfLink kept → Performs tells story faults calls old kept outcome new → free_of new ≤ free_of old
+  pub free_performed : (old new : Store D) (kept : Recorded) (outcome : Result Reply Refusal) → IsOfLink kept → Performs meaning old kept outcome new → free_of new ≤ free_of old
   free_performed old new kept (Ok reply) is done =
       subst (λ (s : State). free_in s.waiting ≤ free_of old) (sym done.state) (recorded_free (birth_in old) (state_in old) kept is)
   free_performed old new kept (Err refusal) is done = subst (λ (s : State). free_in s.waiting ≤ free_of old) (sym done.state) (omega arith)
 
-  pub free_passed : (old new : Store D) (link : ℕ) (brief : Passing) → IsOpen tells story old → IsOfThis link brief → Passes tells story faults calls old brief new
+  pub free_passed : (old new : Store D) (link : ℕ) (brief : Passing) → IsOpen meaning old → IsOfThis link brief → Passes meaning old brief new
       → free_of new ≤ free_of old + freed_by brief
   free_passed old new link brief open_ is done =
-      subst (λ (s : State). free_in s.waiting ≤ free_of old + freed_by brief) (sym done.state) (passed_free link (state_in old) brief (in_order tells story old open_) is)
+      subst (λ (s : State). free_in s.waiting ≤ free_of old + freed_by brief) (sym done.state) (passed_free link (state_in old) brief (in_order meaning old open_) is)
 
-  free_withheld : (expired : Bool) (old new : Store D) (link now message : ℕ) (refusal : Refusal) → Withholds tells story faults calls expired old link now message refusal new
+  free_withheld : (expired : Bool) (old new : Store D) (link now message : ℕ) (refusal : Refusal) → Withholds meaning expired old link now message refusal new
       → free_of new ≤ free_of old
   free_withheld true old new link now message refusal (inl done) = subst (λ (s : State). free_in s.waiting ≤ free_of old) (sym done.state) (omega arith)
   free_withheld true old new link now message refusal (inr none) = subst (λ (s : Store D). free_of s ≤ free_of old) (sym none.1) (omega arith)
   free_withheld false old new link now message refusal none = subst (λ (s : Store D). free_of s ≤ free_of old) (sym none.1) (omega arith)
 
-  free_taken_one : (old new : Store D) (link now message : ℕ) (outcome : Result (Option Taken) Refusal) → IsOpen tells story old → IsReading now
-      → next (rules_in old) (state_in old) link now ≡ Some message → TakesMessage tells story faults calls old link now message outcome new → free_of new + taken_by outcome ≤ free_of old
+  free_taken_one : (old new : Store D) (link now message : ℕ) (outcome : Result (Option Taken) Refusal) → IsOpen meaning old → IsReading now
+      → next (rules_in old) (state_in old) link now ≡ Some message → TakesMessage meaning old link now message outcome new → free_of new + taken_by outcome ≤ free_of old
   free_taken_one old new link now message (Ok None) open_ soon next_is takes_ = absurd takes_
   free_taken_one old new link now message (Ok (Some (taken.Send number sms))) open_ soon next_is takes_ =
-      let w = next_waits tells story faults calls old link now message open_ soon next_is in
+      let w = next_waits meaning old link now message open_ soon next_is in
       subst (λ (s : State). free_in s.waiting + 1 ≤ free_of old) (sym takes_.3.state) (one_taken link message w.0 (state_in old).waiting w.1 w.2.0)
   free_taken_one old new link now message (Ok (Some (taken.Expired number))) open_ soon next_is takes_ =
-      let w = next_waits tells story faults calls old link now message open_ soon next_is in
+      let w = next_waits meaning old link now message open_ soon next_is in
       subst (λ (s : State). free_in s.waiting + 1 ≤ free_of old) (sym takes_.3.state) (one_without message w.0 (state_in old).waiting w.1 w.2.0)
   free_taken_one old new link now message (Err refusal) open_ soon next_is takes_ =
       let few = free_withheld (is_expired message now (state_in old)) old new link now message refusal takes_ in omega (arith, few)
 
-  free_takes_next : (old new : Store D) (link now : ℕ) (found : Option ℕ) (outcome : Result (Option Taken) Refusal) → IsOpen tells story old → IsReading now
-      → next (rules_in old) (state_in old) link now ≡ found → TakesNext tells story faults calls old link now found outcome new → free_of new + taken_by outcome ≤ free_of old
+  free_takes_next : (old new : Store D) (link now : ℕ) (found : Option ℕ) (outcome : Result (Option Taken) Refusal) → IsOpen meaning old → IsReading now
+      → next (rules_in old) (state_in old) link now ≡ found → TakesNext meaning old link now found outcome new → free_of new + taken_by outcome ≤ free_of old
   free_takes_next old new link now None outcome open_ soon next_is takes_ =
       subst (λ (s : Store D). free_of s + taken_by outcome ≤ free_of old) (sym takes_.1)
       (subst (λ (o : Result (Option Taken) Refusal). free_of old + taken_by o ≤ free_of old) (sym takes_.0) (omega arith))
   free_takes_next old new link now (Some message) outcome open_ soon next_is takes_ = free_taken_one old new link now message outcome open_ soon next_is takes_
 
-  pub free_takes : (old new : Store D) (link now : ℕ) (outcome : Result (Option Taken) Refusal) → IsOpen tells story old → IsReading now → Takes tells story faults calls old link now outcome new
+  pub free_takes : (old new : Store D) (link now : ℕ) (outcome : Result (Option Taken) Refusal) → IsOpen meaning old → IsReading now → Takes meaning old link now outcome new
       → free_of new + taken_by outcome ≤ free_of old
   free_takes old new link now outcome open_ soon takes_ = free_takes_next old new link now (next (rules_in old) (state_in old) link now) outcome open_ soon refl takes_

@@ -27,7 +27,7 @@ use Rattle.route_rules.specs.declared.link_rule.LinkRule.{LinkRule}
 use Rattle.route_rules.specs.declared.rules.Rules.{Rules}
 use Rattle.sms_record.specs.Record.{IsSms}
 use Rattle.sms_record.specs.declared.sms.Sms.{Sms}
-use Rattle.store_disk.specs.Story.{Story}
+use Rattle.store_disk.specs.Meaning.{Meaning}
 use Rattle.link_turn.specs.Back.{IsAmong, held, is_up}
 use Rattle.link_turn.specs.Session.{Talk, MayBeGiven, FitsPhase, messages}
 use Rattle.link_turn.specs.SessionSteps.{Stands, StandsIn}
@@ -55,20 +55,20 @@ carried_by kind terms rules sms is chosen =
     let same : chosen.0 ≡ is.rule = cc in
     subst (λ (k : LinkKind). carries k sms ≡ true) (ap (λ (r : LinkRule). r.kind) same ∙ is.kind_is) chosen.2
 
-module _ {D : Type 0} (tells : Bool) (story : D → Story) (faults calls : D → ℕ) where
+module _ {D : Type 0} (meaning : Meaning D) where
   -- the messages that wait in an open store have records
-  stored : (store : Store D) → IsOpen tells story store → AreMessages (state_in store).waiting
+  stored : (store : Store D) → IsOpen meaning store → AreMessages (state_in store).waiting
   stored store is =
       settled_messages (state_in store) (state_of is.0 (rules_in store) is.1) is.2.state (after_messages is.0 is.1 (start (rules_in store)) is.2.in_turn tt)
 
   -- a message that a link takes may be said, and the link doesn't hold it yet
   may_be_sent : (kind : LinkKind) (terms : Terms) (store : Store D) (latest now message number : ℕ) (sms : Sms) (uses : List Submitted) (held_ : List ℕ) (up : Bool)
-      → IsOpen tells story store → IsReading latest → latest ≤ now → IsReading now → IsLinkOf kind terms (rules_in store) → IsOf terms.link held_ up (state_in store) → held_ ≡ messages uses
+      → IsOpen meaning store → IsReading latest → latest ≤ now → IsReading now → IsLinkOf kind terms (rules_in store) → IsOf terms.link held_ up (state_in store) → held_ ≡ messages uses
       → next (rules_in store) (state_in store) terms.link latest ≡ Some message → number ≡ message → Some sms ≡ sms_of message (state_in store)
       → IsSubmit kind number sms now × ¬ IsAmong number (messages uses)
   may_be_sent kind terms store latest now message number sms uses held_ up open_ soon order soon' link of same next_is is sms_is =
       let state = state_in store in
-      let w = next_waits tells story faults calls store terms.link latest message open_ soon next_is in
+      let w = next_waits meaning store terms.link latest message open_ soon next_is in
       let both : Some sms ≡ Some w.0.sms = sms_is ∙ ap (option_map (λ (x : Waiting). x.sms)) w.1 in
       let sms_same : w.0.sms ≡ sms = cc in
       let below = held_below 1 (state.last_message + 1) message state.waiting open_.2.whole.order.waiting (ap is_some w.1) in
@@ -92,8 +92,8 @@ module _ {D : Type 0} (tells : Bool) (story : D → Story) (faults calls : D →
       )
 
   by_found : (kind : LinkKind) (terms : Terms) (store after : Store D) (latest now : ℕ) (found : Option ℕ) (outcome : Result (Option Taken) Refusal) (uses : List Submitted) (held_ : List ℕ) (up : Bool)
-      → IsOpen tells story store → IsReading latest → latest ≤ now → IsReading now → IsLinkOf kind terms (rules_in store) → IsOf terms.link held_ up (state_in store) → held_ ≡ messages uses
-      → next (rules_in store) (state_in store) terms.link latest ≡ found → TakesNext tells story faults calls store terms.link latest found outcome after → MayBeGiven kind now uses outcome
+      → IsOpen meaning store → IsReading latest → latest ≤ now → IsReading now → IsLinkOf kind terms (rules_in store) → IsOf terms.link held_ up (state_in store) → held_ ≡ messages uses
+      → next (rules_in store) (state_in store) terms.link latest ≡ found → TakesNext meaning store terms.link latest found outcome after → MayBeGiven kind now uses outcome
   by_found kind terms store after latest now None outcome uses held_ up open_ soon order soon' link of same next_is takes_ =
       subst (MayBeGiven kind now uses) (sym takes_.0) tt
   by_found kind terms store after latest now (Some message) (Ok None) uses held_ up open_ soon order soon' link of same next_is takes_ = absurd takes_
@@ -103,8 +103,8 @@ module _ {D : Type 0} (tells : Bool) (story : D → Story) (faults calls : D →
   by_found kind terms store after latest now (Some message) (Err refusal) uses held_ up open_ soon order soon' link of same next_is takes_ = tt
 
   pub may_be_given : (kind : LinkKind) (terms : Terms) (store after : Store D) (latest now : ℕ) (outcome : Result (Option Taken) Refusal) (uses : List Submitted) (held_ : List ℕ) (up : Bool)
-      → IsOpen tells story store → IsReading latest → latest ≤ now → IsReading now → IsLinkOf kind terms (rules_in store) → IsOf terms.link held_ up (state_in store) → held_ ≡ messages uses
-      → Takes tells story faults calls store terms.link latest outcome after → MayBeGiven kind now uses outcome
+      → IsOpen meaning store → IsReading latest → latest ≤ now → IsReading now → IsLinkOf kind terms (rules_in store) → IsOf terms.link held_ up (state_in store) → held_ ≡ messages uses
+      → Takes meaning store terms.link latest outcome after → MayBeGiven kind now uses outcome
   may_be_given kind terms store after latest now outcome uses held_ up open_ soon order soon' link of same takes_ =
       by_found kind terms store after latest now (next (rules_in store) (state_in store) terms.link latest) outcome uses held_ up open_ soon order soon' link of same refl takes_
 
@@ -136,43 +136,43 @@ fits_spoken kind now session saying octets given old new pe (said_all is so) = s
 fits_spoken kind now session saying octets given old new pe (faulted is gone so not) = subst (FitsPhase kind now session) (sym is) (saying, pe)
 fits_spoken kind now session saying octets given old new pe (starved is gone so rose) = subst (FitsPhase kind now session) (sym is) (inr (saying, pe))
 
-module _ {C D : Type 0} (tells : Bool) (story : D → Story) (faults calls : D → ℕ)
+module _ {C D : Type 0} (meaning : Meaning D)
     (hears_so : List ℕ → Heard → Type 0) (refuses : List ℕ → ℕ → ℕ → Type 0) (said : C → Out → List ℕ) (core : C) (terms : Terms) where
   fits_in : (kind : LinkKind) (link now : ℕ) (stop : Bool) (phase : Phase) (wish : Wish) (given : Given) (talk : Talk) (session : Session C) (old new : Course) (store after : Store D)
-      → session.phase ≡ phase → ¬ (phase ≡ Fresh) → StandsIn hears_so refuses said core terms phase wish talk session → Does tells story faults calls link stop wish given old new store after
-      → link ≡ terms.link → IsOpen tells story store → IsReading session.latest → session.latest ≤ now → IsReading now → IsLinkOf kind terms (rules_in store)
+      → session.phase ≡ phase → ¬ (phase ≡ Fresh) → StandsIn hears_so refuses said core terms phase wish talk session → Does meaning link stop wish given old new store after
+      → link ≡ terms.link → IsOpen meaning store → IsReading session.latest → session.latest ≤ now → IsReading now → IsLinkOf kind terms (rules_in store)
       → IsOf terms.link (held talk.steps) (is_up talk.steps) (state_in store) → FitsPhase kind now session given
   fits_in kind link now stop Fresh wish given talk session old new store after pe begun stands does_ same open_ soon order soon' link_of of = absurd (begun refl)
   fits_in kind link now stop Listening wish given talk session old new store after pe begun stands does_ same open_ soon order soon' link_of of =
-      let d = subst (λ (w : Wish). Does tells story faults calls link stop w given old new store after) stands.0 does_ in
+      let d = subst (λ (w : Wish). Does meaning link stop w given old new store after) stands.0 does_ in
       subst (FitsPhase kind now session) (sym d.0) pe
   fits_in kind link now stop (phase_is.Saying saying) wish given talk session old new store after pe begun stands does_ same open_ soon order soon' link_of of =
-      let d = subst (λ (w : Wish). Does tells story faults calls link stop w given old new store after) stands.1 does_ in
+      let d = subst (λ (w : Wish). Does meaning link stop w given old new store after) stands.1 does_ in
       fits_spoken kind now session saying (said core stands.0) given old new pe (spoke_so (said core stands.0) given old new d.0)
   fits_in kind link now stop (phase_is.Recording recording) wish given talk session old new store after pe begun stands does_ same open_ soon order soon' link_of of =
-      let d = subst (λ (w : Wish). Does tells story faults calls link stop w given old new store after) stands.1 does_ in
+      let d = subst (λ (w : Wish). Does meaning link stop w given old new store after) stands.1 does_ in
       subst (FitsPhase kind now session) (sym d.1) (recording, pe)
   fits_in kind link now stop ComingUp wish given talk session old new store after pe begun stands does_ same open_ soon order soon' link_of of =
-      let d = subst (λ (w : Wish). Does tells story faults calls link stop w given old new store after) stands.0 does_ in
+      let d = subst (λ (w : Wish). Does meaning link stop w given old new store after) stands.0 does_ in
       subst (FitsPhase kind now session) (sym d.0) (inl pe)
   fits_in kind link now stop (GivingBack message) wish given talk session old new store after pe begun stands does_ same open_ soon order soon' link_of of =
-      let d = subst (λ (w : Wish). Does tells story faults calls link stop w given old new store after) stands.0 does_ in
+      let d = subst (λ (w : Wish). Does meaning link stop w given old new store after) stands.0 does_ in
       subst (FitsPhase kind now session) (sym d.0) (inr (inl (message, pe)))
   fits_in kind link now stop Taking wish given talk session old new store after pe begun stands does_ same open_ soon order soon' link_of of =
-      let d = subst (λ (w : Wish). Does tells story faults calls link stop w given old new store after) stands.0 does_ in
-      let takes_ = subst (λ (l : ℕ). Takes tells story faults calls store l session.latest d.0 after) same d.2 in
+      let d = subst (λ (w : Wish). Does meaning link stop w given old new store after) stands.0 does_ in
+      let takes_ = subst (λ (l : ℕ). Takes meaning store l session.latest d.0 after) same d.2 in
       subst (FitsPhase kind now session) (sym d.1)
-      (pe, may_be_given tells story faults calls kind terms store after session.latest now d.0 session.in_use.items (held talk.steps) (is_up talk.steps) open_ soon order soon' link_of of stands.1.holds.others takes_)
+      (pe, may_be_given meaning kind terms store after session.latest now d.0 session.in_use.items (held talk.steps) (is_up talk.steps) open_ soon order soon' link_of of stands.1.holds.others takes_)
   fits_in kind link now stop (Leaving cause one) wish given talk session old new store after pe begun stands does_ same open_ soon order soon' link_of of =
-      let d = subst (λ (w : Wish). Does tells story faults calls link stop w given old new store after) stands.1 does_ in
+      let d = subst (λ (w : Wish). Does meaning link stop w given old new store after) stands.1 does_ in
       subst (FitsPhase kind now session) (sym d.0) (inr (inr (cause, one, pe)))
   fits_in kind link now stop Done wish given talk session old new store after pe begun stands does_ same open_ soon order soon' link_of of =
-      absurd (subst (λ (w : Wish). Does tells story faults calls link stop w given old new store after) stands.1 does_)
+      absurd (subst (λ (w : Wish). Does meaning link stop w given old new store after) stands.1 does_)
 
   -- what came of a wish may be given to a session
   pub fits_done : (kind : LinkKind) (link now : ℕ) (stop : Bool) (wish : Wish) (given : Given) (talk : Talk) (session : Session C) (old new : Course) (store after : Store D)
-      → ¬ (session.phase ≡ Fresh) → Stands hears_so refuses said core terms wish talk session → Does tells story faults calls link stop wish given old new store after
-      → link ≡ terms.link → IsOpen tells story store → IsReading session.latest → session.latest ≤ now → IsReading now → IsLinkOf kind terms (rules_in store)
+      → ¬ (session.phase ≡ Fresh) → Stands hears_so refuses said core terms wish talk session → Does meaning link stop wish given old new store after
+      → link ≡ terms.link → IsOpen meaning store → IsReading session.latest → session.latest ≤ now → IsReading now → IsLinkOf kind terms (rules_in store)
       → IsOf terms.link (held talk.steps) (is_up talk.steps) (state_in store) → FitsPhase kind now session given
   fits_done kind link now stop wish given talk session old new store after begun stands does_ same open_ soon order soon' link_of of =
       fits_in kind link now stop session.phase wish given talk session old new store after refl begun stands does_ same open_ soon order soon' link_of of

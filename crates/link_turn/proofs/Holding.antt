@@ -29,7 +29,7 @@ use Rattle.gate_store.specs.declared.taken.Taken.{Taken}
 use Rattle.gate_store.specs.declared.taken.Taken.TheVariants as taken
 use Rattle.route_rules.specs.declared.rules.Rules.{Rules}
 use Rattle.sms_record.specs.declared.kind.Kind.TheVariants as kind_is
-use Rattle.store_disk.specs.Story.{Story}
+use Rattle.store_disk.specs.Meaning.{Meaning}
 use Rattle.link_turn.specs.Back.{held, is_up, held_recorded, held_taken, without_any, ended_by, given_back_by, up_passed}
 use Rattle.link_turn.specs.Steps.{Step, hears, says, records, passes, takes, leaves, Deed, performed, passed, took, deeds_in}
 use Rattle.link_turn.specs.Turn.{IsOf, IsReading}
@@ -150,37 +150,37 @@ some_there (Some x) P is = (x, refl, is)
 pub reading_is : (now : ℕ) → IsReading now → nat_lt now (2 ^ 37) ≡ true
 reading_is now below = lt-ltb now (2 ^ 37) below
 
-pub in_order : {D : Type 0} (tells : Bool) (story : D → Story) (store : Store D) → IsOpen tells story store → IsInOrder (state_in store)
-in_order tells story store is = is.2.whole.order
+pub in_order : {D : Type 0} (meaning : Meaning D) (store : Store D) → IsOpen meaning store → IsInOrder (state_in store)
+in_order meaning store is = is.2.whole.order
 
-module _ {D : Type 0} (tells : Bool) (story : D → Story) (faults calls : D → ℕ) where
+module _ {D : Type 0} (meaning : Meaning D) where
   pub of_performed : (old new : Store D) (link : ℕ) (messages : List ℕ) (up : Bool) (kept : Recorded) (outcome : Result Reply Refusal) → IsOfLink kept
-      → IsOf link messages up (state_in old) → Performs tells story faults calls old kept outcome new → IsOf link (held_recorded kept outcome messages) up (state_in new)
+      → IsOf link messages up (state_in old) → Performs meaning old kept outcome new → IsOf link (held_recorded kept outcome messages) up (state_in new)
   of_performed old new link messages up kept (Ok reply) is of done =
       subst (IsOf link (without_any (ended_by kept) messages) up) (sym done.state) (recorded_of (birth_in old) link messages up (state_in old) kept is of)
   of_performed old new link messages up kept (Err refusal) is of done = subst (IsOf link messages up) (sym done.state) of
 
   pub of_passed : (old new : Store D) (link : ℕ) (messages : List ℕ) (up : Bool) (brief : Passing) → IsOfThis link brief
-      → IsOf link messages up (state_in old) → Passes tells story faults calls old brief new → IsOf link (without_any (given_back_by brief) messages) (up_passed brief up) (state_in new)
+      → IsOf link messages up (state_in old) → Passes meaning old brief new → IsOf link (without_any (given_back_by brief) messages) (up_passed brief up) (state_in new)
   of_passed old new link messages up brief is of done =
       subst (IsOf link (without_any (given_back_by brief) messages) (up_passed brief up)) (sym done.state) (passed_of link messages up (state_in old) brief is of)
 
   -- the message that comes next waits, nobody has taken it, and the link may
-  pub next_waits : (store : Store D) (link now message : ℕ) → IsOpen tells story store → IsReading now → next (rules_in store) (state_in store) link now ≡ Some message
+  pub next_waits : (store : Store D) (link now message : ℕ) → IsOpen meaning store → IsReading now → next (rules_in store) (state_in store) link now ≡ Some message
       → (waiting : Waiting) × (value_under message (state_in store).waiting ≡ Some waiting) × MayTake (rules_in store) (state_in store) link now waiting
   next_waits store link now message is below next_is =
-      let may = next_may_be_taken (rules_in store) (state_in store) link now message (in_order tells story store is) (reading_is now below) next_is in
+      let may = next_may_be_taken (rules_in store) (state_in store) link now message (in_order meaning store is) (reading_is now below) next_is in
       some_there (value_under message (state_in store).waiting) (MayTake (rules_in store) (state_in store) link now) may.0
 
   of_withheld : (expired : Bool) (old new : Store D) (link now message : ℕ) (refusal : Refusal) (messages : List ℕ) (up : Bool) → IsOf link messages up (state_in old)
-      → Withholds tells story faults calls expired old link now message refusal new → IsOf link messages up (state_in new)
+      → Withholds meaning expired old link now message refusal new → IsOf link messages up (state_in new)
   of_withheld true old new link now message refusal messages up of (inl done) = subst (IsOf link messages up) (sym done.state) of
   of_withheld true old new link now message refusal messages up of (inr none) = subst (λ (s : Store D). IsOf link messages up (state_in s)) (sym none.1) of
   of_withheld false old new link now message refusal messages up of none = subst (λ (s : Store D). IsOf link messages up (state_in s)) (sym none.1) of
 
-  of_taken_one : (old new : Store D) (link now message : ℕ) (outcome : Result (Option Taken) Refusal) (messages : List ℕ) (up : Bool) → IsOpen tells story old → IsReading now
+  of_taken_one : (old new : Store D) (link now message : ℕ) (outcome : Result (Option Taken) Refusal) (messages : List ℕ) (up : Bool) → IsOpen meaning old → IsReading now
       → next (rules_in old) (state_in old) link now ≡ Some message → IsOf link messages up (state_in old)
-      → TakesMessage tells story faults calls old link now message outcome new → IsOf link (held_taken outcome messages) up (state_in new)
+      → TakesMessage meaning old link now message outcome new → IsOf link (held_taken outcome messages) up (state_in new)
   of_taken_one old new link now message (Ok None) messages up is below next_is of takes_ = absurd takes_
   of_taken_one old new link now message (Ok (Some (taken.Send number sms))) messages up is below next_is of takes_ =
       let w = next_waits old link now message is below next_is in
@@ -193,16 +193,16 @@ module _ {D : Type 0} (tells : Bool) (story : D → Story) (faults calls : D →
   of_taken_one old new link now message (Err refusal) messages up is below next_is of takes_ =
       of_withheld (is_expired message now (state_in old)) old new link now message refusal messages up of takes_
 
-  of_takes_next : (old new : Store D) (link now : ℕ) (found : Option ℕ) (outcome : Result (Option Taken) Refusal) (messages : List ℕ) (up : Bool) → IsOpen tells story old → IsReading now
+  of_takes_next : (old new : Store D) (link now : ℕ) (found : Option ℕ) (outcome : Result (Option Taken) Refusal) (messages : List ℕ) (up : Bool) → IsOpen meaning old → IsReading now
       → next (rules_in old) (state_in old) link now ≡ found → IsOf link messages up (state_in old)
-      → TakesNext tells story faults calls old link now found outcome new → IsOf link (held_taken outcome messages) up (state_in new)
+      → TakesNext meaning old link now found outcome new → IsOf link (held_taken outcome messages) up (state_in new)
   of_takes_next old new link now None outcome messages up is below next_is of takes_ =
       subst (λ (s : Store D). IsOf link (held_taken outcome messages) up (state_in s)) (sym takes_.1)
       (subst (λ (o : Result (Option Taken) Refusal). IsOf link (held_taken o messages) up (state_in old)) (sym takes_.0) of)
   of_takes_next old new link now (Some message) outcome messages up is below next_is of takes_ = of_taken_one old new link now message outcome messages up is below next_is of takes_
 
-  pub of_takes : (old new : Store D) (link now : ℕ) (outcome : Result (Option Taken) Refusal) (messages : List ℕ) (up : Bool) → IsOpen tells story old → IsReading now
-      → IsOf link messages up (state_in old) → Takes tells story faults calls old link now outcome new → IsOf link (held_taken outcome messages) up (state_in new)
+  pub of_takes : (old new : Store D) (link now : ℕ) (outcome : Result (Option Taken) Refusal) (messages : List ℕ) (up : Bool) → IsOpen meaning old → IsReading now
+      → IsOf link messages up (state_in old) → Takes meaning old link now outcome new → IsOf link (held_taken outcome messages) up (state_in new)
   of_takes old new link now outcome messages up is below of takes_ =
       of_takes_next old new link now (next (rules_in old) (state_in old) link now) outcome messages up is below refl of takes_
 

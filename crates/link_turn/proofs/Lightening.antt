@@ -10,7 +10,7 @@ use Rattle.gate_store.specs.declared.taken.Taken.{Taken}
 use Rattle.kn_base.specs.Course.{Course}
 use Rattle.link_core.specs.declared.heard.Heard.{Heard}
 use Rattle.link_core.specs.declared.out.Out.{Out}
-use Rattle.store_disk.specs.Story.{Story}
+use Rattle.store_disk.specs.Meaning.{Meaning}
 use Rattle.link_turn.specs.Session.{Talk}
 use Rattle.link_turn.specs.SessionSteps.{Stands, StandsIn}
 use Rattle.link_turn.specs.Turn.{IsReading}
@@ -54,7 +54,7 @@ module _ {C : Type 0} where
   falls_by s after state later more lighter free =
       let most = at_most after later in omega (arith, lighter, free, most)
 
-module _ {C D : Type 0} (tells : Bool) (story : D → Story) (faults calls : D → ℕ)
+module _ {C D : Type 0} (meaning : Meaning D)
     (hears_so : List ℕ → Heard → Type 0) (refuses : List ℕ → ℕ → ℕ → Type 0) (said : C → Out → List ℕ) (core : C) (terms : Terms) where
   leaves_in : (phase : Phase) (next : Wish) (cause : EndCause) (talk : Talk) (s : Session C) (state : State) → StandsIn hears_so refuses said core terms phase next talk s
       → cause_in next phase ≡ Some cause → to_do_in phase s state ≡ weight s
@@ -83,56 +83,56 @@ module _ {C D : Type 0} (tells : Bool) (story : D → Story) (faults calls : D �
   Falls phase s after store later = to_do after (state_in later) < to_do_in phase s (state_in store)
 
   falls_in : (link : ℕ) (stop : Bool) (phase : Phase) (wish : Wish) (given : Given) (talk more : Talk) (s after : Session C) (next : Wish) (old new : Course) (store later : Store D)
-      → s.phase ≡ phase → StandsIn hears_so refuses said core terms phase wish talk s → Does tells story faults calls link stop wish given old new store later → IsOne hears_so refuses said core terms wish
-      → IsOpen tells story store → IsReading s.latest → GetsLighter s given after → EndsBy s given next after → Stands hears_so refuses said core terms next more after → Falls phase s after store later
+      → s.phase ≡ phase → StandsIn hears_so refuses said core terms phase wish talk s → Does meaning link stop wish given old new store later → IsOne hears_so refuses said core terms wish
+      → IsOpen meaning store → IsReading s.latest → GetsLighter s given after → EndsBy s given next after → Stands hears_so refuses said core terms next more after → Falls phase s after store later
   falls_in link stop Fresh wish given talk more s after next old new store later pe stands does_ one open_ soon lighter ends then_ =
-      let d = subst (λ (w : Wish). Does tells story faults calls link stop w given old new store later) stands.0 does_ in
+      let d = subst (λ (w : Wish). Does meaning link stop w given old new store later) stands.0 does_ in
       let light = subst (λ (g : Given). GetsLighter s g after) d.0 lighter in
       falls_by s after (state_in store) (state_in later) 0 (omega (arith, light)) (same_free store later d.3)
   falls_in link stop Listening wish given talk more s after next old new store later pe stands does_ one open_ soon lighter ends then_ =
-      let d = subst (λ (w : Wish). Does tells story faults calls link stop w given old new store later) stands.0 does_ in
+      let d = subst (λ (w : Wish). Does meaning link stop w given old new store later) stands.0 does_ in
       let light = subst (λ (g : Given). GetsLighter s g after) d.0 lighter in
       falls_by s after (state_in store) (state_in later) 0 (omega (arith, light)) (same_free store later d.3)
   falls_in link stop (phase_is.Saying saying) wish given talk more s after next old new store later pe stands does_ one open_ soon lighter ends then_ =
-      let d = subst (λ (w : Wish). Does tells story faults calls link stop w given old new store later) stands.1 does_ in
+      let d = subst (λ (w : Wish). Does meaning link stop w given old new store later) stands.1 does_ in
       let light = spoke_lighter (said core stands.0) given old new s after (spoke_so (said core stands.0) given old new d.0) lighter in
       falls_by s after (state_in store) (state_in later) 0 (omega (arith, light)) (same_free store later d.1)
   falls_in link stop (phase_is.Recording recording) wish given talk more s after next old new store later pe stands does_ one open_ soon lighter ends then_ =
-      let d = subst (λ (w : Wish). Does tells story faults calls link stop w given old new store later) stands.1 does_ in
+      let d = subst (λ (w : Wish). Does meaning link stop w given old new store later) stands.1 does_ in
       let mine = subst (IsOne hears_so refuses said core terms) stands.1 one in
       let light = subst (λ (g : Given). GetsLighter s g after) d.1 lighter in
-      let free = free_performed tells story faults calls store later stands.0 d.0 mine d.2 in
+      let free = free_performed meaning store later stands.0 d.0 mine d.2 in
       falls_by s after (state_in store) (state_in later) 0 (omega (arith, light)) (omega (arith, free))
   falls_in link stop ComingUp wish given talk more s after next old new store later pe stands does_ one open_ soon lighter ends then_ =
-      let d = subst (λ (w : Wish). Does tells story faults calls link stop w given old new store later) stands.0 does_ in
+      let d = subst (λ (w : Wish). Does meaning link stop w given old new store later) stands.0 does_ in
       let mine = subst (IsOne hears_so refuses said core terms) stands.0 one in
       let light = subst (λ (p : Phase). GetsLighterBehind p (weight s) (weight after)) pe (subst (λ (g : Given). GetsLighter s g after) d.0 lighter) in
-      let free = free_passed tells story faults calls store later terms.link (Up terms.link) open_ mine d.1 in
+      let free = free_passed meaning store later terms.link (Up terms.link) open_ mine d.1 in
       falls_by s after (state_in store) (state_in later) 0 (omega (arith, light)) (omega (arith, free))
   falls_in link stop (GivingBack message) wish given talk more s after next old new store later pe stands does_ one open_ soon lighter ends then_ =
-      let d = subst (λ (w : Wish). Does tells story faults calls link stop w given old new store later) stands.0 does_ in
+      let d = subst (λ (w : Wish). Does meaning link stop w given old new store later) stands.0 does_ in
       let mine = subst (IsOne hears_so refuses said core terms) stands.0 one in
       let light = subst (λ (p : Phase). GetsLighterBehind p (weight s) (weight after)) pe (subst (λ (g : Given). GetsLighter s g after) d.0 lighter) in
-      let free = free_passed tells story faults calls store later terms.link (Returned message) open_ mine d.1 in
+      let free = free_passed meaning store later terms.link (Returned message) open_ mine d.1 in
       falls_by s after (state_in store) (state_in later) 1 (omega (arith, light)) (omega (arith, free))
   falls_in link stop Taking wish given talk more s after next old new store later pe stands does_ one open_ soon lighter ends then_ =
-      let d = subst (λ (w : Wish). Does tells story faults calls link stop w given old new store later) stands.0 does_ in
+      let d = subst (λ (w : Wish). Does meaning link stop w given old new store later) stands.0 does_ in
       let light = taken_lighter d.0 s after (subst (λ (g : Given). GetsLighter s g after) d.1 lighter) in
-      let free = free_takes tells story faults calls store later link s.latest d.0 open_ soon d.2 in
+      let free = free_takes meaning store later link s.latest d.0 open_ soon d.2 in
       let most = at_most after (state_in later) in
       omega (arith, light, free, most)
   falls_in link stop (Leaving cause one_) wish given talk more s after next old new store later pe stands does_ one open_ soon lighter ends then_ =
-      let d = subst (λ (w : Wish). Does tells story faults calls link stop w given old new store later) stands.1 does_ in
+      let d = subst (λ (w : Wish). Does meaning link stop w given old new store later) stands.1 does_ in
       let light = subst (λ (p : Phase). GetsLighterBehind p (weight s) (weight after)) pe (subst (λ (g : Given). GetsLighter s g after) d.0 lighter) in
       let for_ = subst (λ (p : Phase). EndsBehind p next after) pe (subst (λ (g : Given). EndsBy s g next after) d.0 ends) in
       let least = leaves_in after.phase next cause more after (state_in later) then_ for_ in
       omega (arith, light, least)
   falls_in link stop Done wish given talk more s after next old new store later pe stands does_ one open_ soon lighter ends then_ =
-      absurd (subst (λ (w : Wish). Does tells story faults calls link stop w given old new store later) stands.1 does_)
+      absurd (subst (λ (w : Wish). Does meaning link stop w given old new store later) stands.1 does_)
 
   pub falls : (link : ℕ) (stop : Bool) (wish : Wish) (given : Given) (talk more : Talk) (s after : Session C) (next : Wish) (old new : Course) (store later : Store D)
-      → Stands hears_so refuses said core terms wish talk s → Does tells story faults calls link stop wish given old new store later → IsOne hears_so refuses said core terms wish
-      → IsOpen tells story store → IsReading s.latest → GetsLighter s given after → EndsBy s given next after → Stands hears_so refuses said core terms next more after
+      → Stands hears_so refuses said core terms wish talk s → Does meaning link stop wish given old new store later → IsOne hears_so refuses said core terms wish
+      → IsOpen meaning store → IsReading s.latest → GetsLighter s given after → EndsBy s given next after → Stands hears_so refuses said core terms next more after
       → to_do after (state_in later) < to_do s (state_in store)
   falls link stop wish given talk more s after next old new store later stands does_ one open_ soon lighter ends then_ =
       falls_in link stop s.phase wish given talk more s after next old new store later refl stands does_ one open_ soon lighter ends then_

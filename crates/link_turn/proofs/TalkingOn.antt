@@ -14,7 +14,7 @@ use Rattle.kn_base.proofs.Counts.{fell_same, fell_then, failure_fell}
 use Rattle.kn_base.proofs.Readings.{AddsAll-nil, AddsAll-append}
 use Rattle.kn_base.proofs.Talks.{said_of-append, heard_of-append, with_more-nil, with_more-with_more}
 use Rattle.link_core.specs.declared.out.Out.{Out}
-use Rattle.store_disk.specs.Story.{Story}
+use Rattle.store_disk.specs.Meaning.{Meaning}
 use Rattle.link_turn.specs.Session.{Talk, GoesOn, spoken_in, heard_by, spoken_by, deeds_by, MayBeCut, IsCutShort}
 use Rattle.link_turn.specs.Steps.{Deed, performed, passed, took, deeds_in}
 use Rattle.link_turn.specs.Turn.{IsReading, Leads, TalksOn}
@@ -30,11 +30,11 @@ use Rattle.link_turn.proofs.Fitting.{Spoke, said_all, faulted, starved, spoke_so
 fell_failed : (a b : Course) → Fails a b → NoneFell a.counts b.counts
 fell_failed a b fails = failure_fell a.counts b.counts fails.counts
 
-module _ {D : Type 0} (tells : Bool) (story : D → Story) (faults calls : D → ℕ) where
+module _ {D : Type 0} (meaning : Meaning D) where
   -- deeds go on from where others led
-  pub leads_then : (link : ℕ) (a b c : Store D) (first more : List Deed) → Leads tells story faults calls link a first b → Leads tells story faults calls link b more c
-      → Leads tells story faults calls link a (more ++ first) c
-  leads_then link a b c first [] one two = subst (Leads tells story faults calls link a first) (sym two) one
+  pub leads_then : (link : ℕ) (a b c : Store D) (first more : List Deed) → Leads meaning link a first b → Leads meaning link b more c
+      → Leads meaning link a (more ++ first) c
+  leads_then link a b c first [] one two = subst (Leads meaning link a first) (sym two) one
   leads_then link a b c first (performed kept outcome ∷ more) one two = (two.0, leads_then link a b two.0 first more one two.1, two.2)
   leads_then link a b c first (passed brief ∷ more) one two = (two.0, leads_then link a b two.0 first more one two.1, two.2)
   leads_then link a b c first (took now outcome ∷ more) one two = (two.0, leads_then link a b two.0 first more one two.1, two.2)
@@ -42,7 +42,7 @@ module _ {D : Type 0} (tells : Bool) (story : D → Story) (faults calls : D →
   -- ---- nothing happened, or one thing after the other
 
   pub talks_none : (said : Out → List ℕ) (link : ℕ) (talk : Talk) (course : Course) (told : Option (List ℕ)) (store : Store D)
-      → TalksOn tells story faults calls said link talk talk course course told told store store
+      → TalksOn meaning said link talk talk course course told told store store
   talks_none said link talk course told store = record {
     pieces = [];
     readings = [];
@@ -59,8 +59,8 @@ module _ {D : Type 0} (tells : Bool) (story : D → Story) (faults calls : D →
   }
 
   pub talks_then : (said : Out → List ℕ) (link : ℕ) (talk mid later : Talk) (a b c : Course) (told between now : Option (List ℕ)) (store amid after : Store D)
-      → TalksOn tells story faults calls said link talk mid a b told between store amid → TalksOn tells story faults calls said link mid later b c between now amid after
-      → TalksOn tells story faults calls said link talk later a c told now store after
+      → TalksOn meaning said link talk mid a b told between store amid → TalksOn meaning said link mid later b c between now amid after
+      → TalksOn meaning said link talk later a c told now store after
   talks_then said link talk mid later a b c told between now store amid after one two = record {
     pieces = one.pieces ++ two.pieces;
     readings = one.readings ++ two.readings;
@@ -87,7 +87,7 @@ module _ {D : Type 0} (tells : Bool) (story : D → Story) (faults calls : D →
     pub heard : heard_of pieces ≡ heard_by given
     pub said_so : said_of pieces ≡ spoken_by wish given cut
     pub may : MayBeCut wish given cut
-    pub led : Leads tells story faults calls link store (deeds_by wish given) after
+    pub led : Leads meaning link store (deeds_by wish given) after
     pub fell : NoneFell old.counts new.counts
 
   kept_counts : (old new : Course) → new ≡ old → NoneFell old.counts new.counts
@@ -95,7 +95,7 @@ module _ {D : Type 0} (tells : Bool) (story : D → Story) (faults calls : D →
 
   -- nothing was heard and said
   unheard : (link : ℕ) (wish : Wish) (given : Given) (old new : Course) (store after : Store D) → heard_by given ≡ [] → spoken_by wish given [] ≡ [] → MayBeCut wish given []
-      → Leads tells story faults calls link store (deeds_by wish given) after → new.talk ≡ old.talk → NoneFell old.counts new.counts → Comes link wish given [] old new store after
+      → Leads meaning link store (deeds_by wish given) after → new.talk ≡ old.talk → NoneFell old.counts new.counts → Comes link wish given [] old new store after
   unheard link wish given old new store after none nothing may led same fell = record {
     pieces = [];
     told_so = same ∙ sym (with_more-nil old.talk);
@@ -108,7 +108,7 @@ module _ {D : Type 0} (tells : Bool) (story : D → Story) (faults calls : D →
 
   -- nothing happened to the peer
   apart : (link : ℕ) (wish : Wish) (given : Given) (old new : Course) (store after : Store D) → heard_by given ≡ [] → spoken_by wish given [] ≡ [] → MayBeCut wish given []
-      → Leads tells story faults calls link store (deeds_by wish given) after → new ≡ old → Comes link wish given [] old new store after
+      → Leads meaning link store (deeds_by wish given) after → new ≡ old → Comes link wish given [] old new store after
   apart link wish given old new store after none nothing may led same =
       unheard link wish given old new store after none nothing may led (ap (λ (c : Course). c.talk) same) (kept_counts old new same)
 
@@ -152,7 +152,7 @@ module _ {D : Type 0} (tells : Bool) (story : D → Story) (faults calls : D →
   )
 
   -- what came of a wish
-  pub comes_done : (link : ℕ) (stop : Bool) (wish : Wish) (given : Given) (old new : Course) (store after : Store D) → Does tells story faults calls link stop wish given old new store after
+  pub comes_done : (link : ℕ) (stop : Bool) (wish : Wish) (given : Given) (old new : Course) (store after : Store D) → Does meaning link stop wish given old new store after
       → (cut : List ℕ) × Comes link wish given cut old new store after
   comes_done link stop wish_is.Listen given old new store after d =
       ([], subst (λ (g : Given). Comes link wish_is.Listen g [] old new store after) (sym d.0) (apart link wish_is.Listen given_is.Stop old new store after refl refl tt d.3 d.2))
@@ -227,7 +227,7 @@ module _ {D : Type 0} (tells : Bool) (story : D → Story) (faults calls : D →
   -- the talk goes on by it
   pub talks_by : (said : Out → List ℕ) (link : ℕ) (wish : Wish) (given : Given) (now : ℕ) (cut : List ℕ) (talk later : Talk) (old new : Course) (told now_told : Option (List ℕ)) (store after : Store D)
       → GoesOn said wish given now cut talk later → Comes link wish given cut old new store after → Adds now told now_told → IsReading now
-      → TalksOn tells story faults calls said link talk later old new told now_told store after
+      → TalksOn meaning said link talk later old new told now_told store after
   talks_by said link wish given now cut talk later old new told now_told store after goes comes adds soon = record {
     pieces = comes.pieces;
     readings = now ∷ [];

@@ -9,7 +9,7 @@ use Rattle.kn_base.specs.Course.{Course}
 use Rattle.link_core.specs.declared.heard.Heard.{Heard}
 use Rattle.link_core.specs.declared.out.Out.{Out}
 use Rattle.route_rules.specs.declared.link_kind.LinkKind.{LinkKind}
-use Rattle.store_disk.specs.Story.{Story}
+use Rattle.store_disk.specs.Meaning.{Meaning}
 use Rattle.gate_entries.specs.declared.passing.Passing.TheVariants.{Up, Returned}
 use Rattle.link_turn.specs.Back.{held, is_up}
 use Rattle.link_turn.specs.Session.{Talk, FitsPhase, IsFresh, IsSession, MayBeRecorded, MayBeCut, Rests, heard_by, messages, now_of, spoken_in, terms_of, used_by}
@@ -116,18 +116,18 @@ IsTurned given None (Ended cause) = ⊥
 IsTurned given (Some cause) (On heard) = ⊥
 IsTurned given (Some cause) (Ended why) = why ≡ cause
 
-module _ {C D : Type 0} (tags : ℕ) (next_tag : Option ℕ → ℕ) (holds : ℕ → Type 0) (kind : LinkKind) (tells : Bool) (story : D → Story) (faults calls : D → ℕ)
+module _ {C D : Type 0} (tags : ℕ) (next_tag : Option ℕ → ℕ) (holds : ℕ → Type 0) (kind : LinkKind) (meaning : Meaning D)
     (hears_so : List ℕ → Heard → Type 0) (refuses : List ℕ → ℕ → ℕ → Type 0) (said : C → Out → List ℕ) where
   -- what is wished first may be done
-  pub wishes_first : (given : Given) (next : Wish) (s after : Session C) (store : Store D) (latest now : ℕ) → MayTurn tags next_tag holds kind hears_so refuses said tells story s store latest
+  pub wishes_first : (given : Given) (next : Wish) (s after : Session C) (store : Store D) (latest now : ℕ) → MayTurn tags next_tag holds kind hears_so refuses said meaning s store latest
       → IsReading now → IsSession tags next_tag holds after → MayBeRecorded next → now_of after ≤ now → MayBeCut wish_is.Listen given [] → Law hears_so refuses said s given now next after
-      → Wishes tags next_tag holds kind hears_so refuses said tells story next after store now
+      → Wishes tags next_tag holds kind hears_so refuses said meaning next after store now
   wishes_first given next s after store latest now m soon sound entry latest_now may law =
       let core = m.led.core in
       let terms = m.led.terms in
       let talk = m.led.talk in
       let on = law core terms talk wish_is.Listen [] m.led.stands may in
-      let same : s.terms ≡ terms = terms_same tells story faults calls hears_so refuses said core terms wish_is.Listen talk s m.led.stands in
+      let same : s.terms ≡ terms = terms_same meaning hears_so refuses said core terms wish_is.Listen talk s m.led.stands in
       let h = held_where hears_so refuses said core terms wish_is.Listen talk s m.led.stands refl in
       let of : IsOf terms.link (held talk.steps) (is_up talk.steps) (state_in store) =
       subst (λ (t : Terms). IsOf t.link (held talk.steps) (is_up talk.steps) (state_in store)) same
@@ -136,7 +136,7 @@ module _ {C D : Type 0} (tags : ℕ) (next_tag : Option ℕ → ℕ) (holds : �
       record {
         sound = sound;
         entry = entry;
-        begun = begun_in tells story faults calls hears_so refuses said core terms now talk.readings next on.later after on.goes.readings on.stands;
+        begun = begun_in meaning hears_so refuses said core terms now talk.readings next on.later after on.goes.readings on.stands;
         core = core;
         terms = terms;
         talk = on.later;
@@ -150,26 +150,26 @@ module _ {C D : Type 0} (tags : ℕ) (next_tag : Option ℕ → ℕ) (holds : �
             (subst (λ (up : Bool). IsOf terms.link (held talk.steps) up (state_in store)) (up_is talk.steps ∙ ap up_in (sym on.goes.deeds) ∙ sym (up_is on.later.steps)) of);
       }
 
-  pub terms_first : (given : Given) (next : Wish) (s after : Session C) (store : Store D) (latest now : ℕ) → MayTurn tags next_tag holds kind hears_so refuses said tells story s store latest
+  pub terms_first : (given : Given) (next : Wish) (s after : Session C) (store : Store D) (latest now : ℕ) → MayTurn tags next_tag holds kind hears_so refuses said meaning s store latest
       → MayBeCut wish_is.Listen given [] → Law hears_so refuses said s given now next after → terms_of after ≡ terms_of s
   terms_first given next s after store latest now m may law =
       let on = law m.led.core m.led.terms m.led.talk wish_is.Listen [] m.led.stands may in
-      terms_same tells story faults calls hears_so refuses said m.led.core m.led.terms next on.later after on.stands
-      ∙ sym (terms_same tells story faults calls hears_so refuses said m.led.core m.led.terms wish_is.Listen m.led.talk s m.led.stands)
+      terms_same meaning hears_so refuses said m.led.core m.led.terms next on.later after on.stands
+      ∙ sym (terms_same meaning hears_so refuses said m.led.core m.led.terms wish_is.Listen m.led.talk s m.led.stands)
 
   -- a session that isn't fresh listens
-  pub listening : (s : Session C) (store : Store D) (latest : ℕ) → MayTurn tags next_tag holds kind hears_so refuses said tells story s store latest → ¬ IsFresh s → s.phase ≡ Listening
+  pub listening : (s : Session C) (store : Store D) (latest : ℕ) → MayTurn tags next_tag holds kind hears_so refuses said meaning s store latest → ¬ IsFresh s → s.phase ≡ Listening
   listening s store latest m begun = (listens_so hears_so refuses said m.led.core m.led.terms wish_is.Listen m.led.talk s m.led.stands refl begun).0
 
   -- ---- what a turn comes to
 
   -- where it would listen, it may have another turn
-  pub again_on : (heard : ℕ) (old s : Session C) (store : Store D) (latest : ℕ) → IsDone tags next_tag holds kind hears_so refuses said tells story None s store latest
-      → MayTurnAgain tags next_tag holds kind hears_so refuses said tells story old (On heard) s store latest
+  pub again_on : (heard : ℕ) (old s : Session C) (store : Store D) (latest : ℕ) → IsDone tags next_tag holds kind hears_so refuses said meaning None s store latest
+      → MayTurnAgain tags next_tag holds kind hears_so refuses said meaning old (On heard) s store latest
   again_on heard old s store latest d =
       let w = d.wishes in
       let stands : Stands hears_so refuses said w.core w.terms wish_is.Listen w.talk s = subst (λ (x : Wish). Stands hears_so refuses said w.core w.terms x w.talk s) d.is w.stands in
-      let same : s.terms ≡ w.terms = terms_same tells story faults calls hears_so refuses said w.core w.terms d.wish w.talk s w.stands in
+      let same : s.terms ≡ w.terms = terms_same meaning hears_so refuses said w.core w.terms d.wish w.talk s w.stands in
       let h = held_where hears_so refuses said w.core w.terms d.wish w.talk s w.stands d.is in (
         record {
           sound = w.sound;
@@ -186,11 +186,11 @@ module _ {C D : Type 0} (tags : ℕ) (next_tag : Option ℕ → ℕ) (holds : �
       )
 
   -- where it is over, its link holds nothing and is down
-  pub again_ended : (cause : EndCause) (old s : Session C) (store : Store D) (latest : ℕ) → IsDone tags next_tag holds kind hears_so refuses said tells story (Some cause) s store latest
-      → terms_of s ≡ terms_of old → MayTurnAgain tags next_tag holds kind hears_so refuses said tells story old (Ended cause) s store latest
+  pub again_ended : (cause : EndCause) (old s : Session C) (store : Store D) (latest : ℕ) → IsDone tags next_tag holds kind hears_so refuses said meaning (Some cause) s store latest
+      → terms_of s ≡ terms_of old → MayTurnAgain tags next_tag holds kind hears_so refuses said meaning old (Ended cause) s store latest
   again_ended cause old s store latest d kept =
       let w = d.wishes in
-      let same : s.terms ≡ w.terms = terms_same tells story faults calls hears_so refuses said w.core w.terms d.wish w.talk s w.stands in
+      let same : s.terms ≡ w.terms = terms_same meaning hears_so refuses said w.core w.terms d.wish w.talk s w.stands in
       let o = over_in hears_so refuses said w.core w.terms s.phase d.wish cause w.talk s w.stands d.is in (
         w.opened,
         subst (λ (t : Terms). IsOf t.link [] false (state_in store)) (sym same ∙ kept)
@@ -206,21 +206,21 @@ module _ {C D : Type 0} (tags : ℕ) (next_tag : Option ℕ → ℕ) (holds : �
   pub turning : (core : C) (terms : Terms) (talk : Talk) (fresh stop : Bool) (given : Given) (next : Wish) (s amid after : Session C) (old mid new : Course) (told between now_told : Option (List ℕ))
       (store later : Store D) (now : ℕ) (end : Option EndCause) (turned : Turned) → Stands hears_so refuses said core terms wish_is.Listen talk s → BeginsWith fresh stop given old mid
       → Adds now told between → IsReading now → MayBeCut wish_is.Listen given [] → Law hears_so refuses said s given now next amid
-      → ((talk' : Talk) → Stands hears_so refuses said core terms next talk' amid → CarriedOn hears_so refuses said tells story faults calls core terms talk' mid new between now_told store later end after)
-      → ¬ IsFresh after → IsTurned given end turned → Turning tells story faults calls hears_so refuses said core terms talk old new told now_told store later turned after
+      → ((talk' : Talk) → Stands hears_so refuses said core terms next talk' amid → CarriedOn hears_so refuses said meaning core terms talk' mid new between now_told store later end after)
+      → ¬ IsFresh after → IsTurned given end turned → Turning meaning hears_so refuses said core terms talk old new told now_told store later turned after
   turning core terms talk fresh stop given next s amid after old mid new told between now_told store later now end turned stands begins adds soon may law carried begun is =
       let on = law core terms talk wish_is.Listen [] stands may in
-      let first = talks_by tells story faults calls (said core) terms.link wish_is.Listen given now [] talk on.later old mid told between store store on.goes
-      (comes_first tells story faults calls terms.link fresh stop given old mid store begins) adds soon in
+      let first = talks_by meaning (said core) terms.link wish_is.Listen given now [] talk on.later old mid told between store store on.goes
+      (comes_first meaning terms.link fresh stop given old mid store begins) adds soon in
       let c = carried on.later on.stands in record {
         later = c.later;
-        talks = talks_then tells story faults calls (said core) terms.link talk on.later c.later old mid new told between now_told store store later first c.talks;
+        talks = talks_then meaning (said core) terms.link talk on.later c.later old mid new told between now_told store store later first c.talks;
         stands = behind c.later end turned c.stands (length_heard talk.heard (heard_by given) c.later.heard (c.unheard ∙ on.goes.heard)) is;
       }
     where
-      behind : (later' : Talk) (end' : Option EndCause) (turned' : Turned) → StandsAtEnd hears_so refuses said tells story faults calls core terms end' later' after
+      behind : (later' : Talk) (end' : Option EndCause) (turned' : Turned) → StandsAtEnd hears_so refuses said meaning core terms end' later' after
           → length later'.heard ≡ length talk.heard + length (heard_by given) → IsTurned given end' turned'
-          → StandsBehindTurn tells story faults calls hears_so refuses said core terms turned' talk later' after
+          → StandsBehindTurn meaning hears_so refuses said core terms turned' talk later' after
       behind later' None (On heard) at length_is is' =
           (at, (listens_so hears_so refuses said core terms wish_is.Listen later' after at refl begun).1.1, length_is ∙ ap (λ (n : ℕ). length talk.heard + n) (sym is'))
       behind later' None (Ended cause) at length_is is' = absurd is'

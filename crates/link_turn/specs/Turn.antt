@@ -15,7 +15,7 @@ use Rattle.link_core.specs.declared.out.Out.{Out}
 use Rattle.route_rules.specs.declared.link_kind.LinkKind.{LinkKind}
 use Rattle.route_rules.specs.declared.link_rule.LinkRule.{LinkRule}
 use Rattle.route_rules.specs.declared.rules.Rules.{Rules}
-use Rattle.store_disk.specs.Story.{Story}
+use Rattle.store_disk.specs.Meaning.{Meaning}
 use Rattle.link_turn.specs.Back.{IsAmong}
 use Rattle.link_turn.specs.Steps.{Deed, performed, passed, took, deeds_in}
 use Rattle.link_turn.specs.Session.{Talk, IsFresh, IsSession, Rests, messages, used_by, terms_of, now_of, spoken_in}
@@ -59,11 +59,11 @@ pub record WasLed {C : Type 0} (hears : List ℕ → Heard → Type 0) (refuses 
 -- A session may have a turn over a store: the store is open, and what the link holds there is what the session holds.
 pub record MayTurn
     {C D : Type 0} (tags : ℕ) (next_tag : Option ℕ → ℕ) (holds : ℕ → Type 0) (kind : LinkKind) (hears : List ℕ → Heard → Type 0)
-    (refuses : List ℕ → ℕ → ℕ → Type 0) (said : C → Out → List ℕ) (tells : Bool) (story : D → Story) (session : Session C) (store : Store D) (latest : ℕ) : Type 0 where
+    (refuses : List ℕ → ℕ → ℕ → Type 0) (said : C → Out → List ℕ) (meaning : Meaning D) (session : Session C) (store : Store D) (latest : ℕ) : Type 0 where
   pub sound : IsSession tags next_tag holds session
   pub led : WasLed hears refuses said session
   pub order : now_of session ≤ latest
-  pub opened : IsOpen tells story store
+  pub opened : IsOpen meaning store
   pub ids : HaveIds (rules_in store)
   pub link : IsLinkOf kind (terms_of session) (rules_in store)
   pub of : IsOf (terms_of session).link (messages (used_by session)) session.up (state_in store)
@@ -73,11 +73,11 @@ pub record MayTurn
 -- where the session goes on, it may have another turn; where it ended, its link holds nothing and is down
 abbrev pub MayTurnAgain :
     {C D : Type 0} → (tags : ℕ) → (next_tag : Option ℕ → ℕ) → (holds : ℕ → Type 0) → (kind : LinkKind) → (hears : List ℕ → Heard → Type 0)
-    → (refuses : List ℕ → ℕ → ℕ → Type 0) → (said : C → Out → List ℕ) → (tells : Bool) → (story : D → Story) → Session C → Turned → Session C → Store D → (latest : ℕ) → Type 0
-MayTurnAgain tags next_tag holds kind hears refuses said tells story old (On heard) session store latest =
-    MayTurn tags next_tag holds kind hears refuses said tells story session store latest × (¬ IsFresh session)
-MayTurnAgain tags next_tag holds kind hears refuses said tells story old (Ended cause) session store latest =
-    IsOpen tells story store × IsOf (terms_of old).link [] false (state_in store)
+    → (refuses : List ℕ → ℕ → ℕ → Type 0) → (said : C → Out → List ℕ) → (meaning : Meaning D) → Session C → Turned → Session C → Store D → (latest : ℕ) → Type 0
+MayTurnAgain tags next_tag holds kind hears refuses said meaning old (On heard) session store latest =
+    MayTurn tags next_tag holds kind hears refuses said meaning session store latest × (¬ IsFresh session)
+MayTurnAgain tags next_tag holds kind hears refuses said meaning old (Ended cause) session store latest =
+    IsOpen meaning store × IsOf (terms_of old).link [] false (state_in store)
 
 -- What was counted at the peer. A session goes on only where none of its calls failed, and something was heard or a quiet was counted, but in its first turn; and an
 -- end by the peer or for its faults has its count.
@@ -89,13 +89,13 @@ CountsTurn fresh stop (Ended end_is.PeerFault) old new = Rose old.faults new.fau
 CountsTurn fresh stop (Ended end_is.Closed) old new = stop ≡ true
 CountsTurn fresh stop (Ended cause) old new = ⊤
 
-module _ {D : Type 0} (tells : Bool) (story : D → Story) (faults calls : D → ℕ) where
+module _ {D : Type 0} (meaning : Meaning D) where
   -- the deeds of a link lead from what a store was to what it is, one after the other; the newest stands first
   abbrev pub Leads : (link : ℕ) → Store D → List Deed → Store D → Type 0
   Leads link old [] new = new ≡ old
-  Leads link old (performed kept outcome ∷ before) new = (between : Store D) × Leads link old before between × Performs tells story faults calls between kept outcome new
-  Leads link old (passed brief ∷ before) new = (between : Store D) × Leads link old before between × Passes tells story faults calls between brief new
-  Leads link old (took now outcome ∷ before) new = (between : Store D) × Leads link old before between × Takes tells story faults calls between link now outcome new
+  Leads link old (performed kept outcome ∷ before) new = (between : Store D) × Leads link old before between × Performs meaning between kept outcome new
+  Leads link old (passed brief ∷ before) new = (between : Store D) × Leads link old before between × Passes meaning between brief new
+  Leads link old (took now outcome ∷ before) new = (between : Store D) × Leads link old before between × Takes meaning between link now outcome new
 
   -- A talk went on: what was heard and said, read of the clock, and done to the store.
   pub record TalksOn (said : Out → List ℕ) (link : ℕ) (talk later : Talk) (old new : Course) (told now_told : Option (List ℕ)) (store after : Store D) : Type 0 where

@@ -18,7 +18,7 @@ use Rattle.kn_base.specs.declared.piece.Piece.TheVariants as piece_is
 use Rattle.link_core.specs.declared.heard.Heard.{Heard}
 use Rattle.link_core.specs.declared.out.Out.{Out}
 use Rattle.route_rules.specs.declared.link_kind.LinkKind.{LinkKind}
-use Rattle.store_disk.specs.Story.{Story}
+use Rattle.store_disk.specs.Meaning.{Meaning}
 use Rattle.link_turn.specs.Back.{held, is_up}
 use Rattle.link_turn.specs.Session.{Talk, IsFresh, IsSession, MayBeRecorded, now_of, spoken_in}
 use Rattle.link_turn.specs.Steps.{deeds_in}
@@ -91,16 +91,16 @@ abbrev pub IsToStop : (stop : Bool) → Option EndCause → Type 0
 IsToStop stop None = stop ≡ false
 IsToStop stop (Some cause) = ⊤
 
-module _ {D : Type 0} (tells : Bool) (story : D → Story) (faults calls : D → ℕ) where
+module _ {D : Type 0} (meaning : Meaning D) where
   -- one thing that is wished was done, and this came of it
   abbrev pub Does : (link : ℕ) → (stop : Bool) → Wish → Given → Course → Course → Store D → Store D → Type 0
   Does link stop wish_is.Listen given old new store after = (given ≡ given_is.Stop) × (stop ≡ true) × (new ≡ old) × (after ≡ store)
   Does link stop (wish_is.Say octets) given old new store after = SaysSo octets old given new × (after ≡ store)
   Does link stop (wish_is.Perform kept) given old new store after =
-      (outcome : Result Reply Refusal) × (given ≡ given_is.Answered outcome) × Performs tells story faults calls store kept outcome after × (new ≡ old)
-  Does link stop (wish_is.Pass brief) given old new store after = (given ≡ given_is.Passed) × Passes tells story faults calls store brief after × (new ≡ old)
+      (outcome : Result Reply Refusal) × (given ≡ given_is.Answered outcome) × Performs meaning store kept outcome after × (new ≡ old)
+  Does link stop (wish_is.Pass brief) given old new store after = (given ≡ given_is.Passed) × Passes meaning store brief after × (new ≡ old)
   Does link stop (wish_is.TakeNext now) given old new store after =
-      (outcome : Result (Option Taken) Refusal) × (given ≡ given_is.Taken outcome) × Takes tells story faults calls store link now outcome after × (new ≡ old)
+      (outcome : Result (Option Taken) Refusal) × (given ≡ given_is.Taken outcome) × Takes meaning store link now outcome after × (new ≡ old)
   Does link stop (wish_is.Over cause) given old new store after = ⊥
 
 -- ---- what an end comes of
@@ -152,7 +152,7 @@ module _ {C : Type 0} where
 -- Some steps led to where a session is that wished something: what its link holds in the store is what these steps hold.
 pub record Wishes
     {C D : Type 0} (tags : ℕ) (next_tag : Option ℕ → ℕ) (holds : ℕ → Type 0) (kind : LinkKind) (hears : List ℕ → Heard → Type 0)
-    (refuses : List ℕ → ℕ → ℕ → Type 0) (said : C → Out → List ℕ) (tells : Bool) (story : D → Story) (wish : Wish) (session : Session C) (store : Store D) (latest : ℕ) : Type 0 where
+    (refuses : List ℕ → ℕ → ℕ → Type 0) (said : C → Out → List ℕ) (meaning : Meaning D) (wish : Wish) (session : Session C) (store : Store D) (latest : ℕ) : Type 0 where
   pub sound : IsSession tags next_tag holds session
   pub entry : MayBeRecorded wish
   pub begun : ¬ IsFresh session
@@ -162,7 +162,7 @@ pub record Wishes
   pub stands : Stands hears refuses said core terms wish talk session
   pub in_time : All IsReading talk.readings
   pub order : now_of session ≤ latest
-  pub opened : IsOpen tells story store
+  pub opened : IsOpen meaning store
   pub ids : HaveIds (rules_in store)
   pub link : IsLinkOf kind terms (rules_in store)
   pub of : IsOf terms.link (held talk.steps) (is_up talk.steps) (state_in store)
@@ -170,12 +170,12 @@ pub record Wishes
 -- where a session stands whose wishes were done: it would listen, or is over
 pub record IsDone
     {C D : Type 0} (tags : ℕ) (next_tag : Option ℕ → ℕ) (holds : ℕ → Type 0) (kind : LinkKind) (hears : List ℕ → Heard → Type 0)
-    (refuses : List ℕ → ℕ → ℕ → Type 0) (said : C → Out → List ℕ) (tells : Bool) (story : D → Story) (end : Option EndCause) (session : Session C) (store : Store D) (latest : ℕ) : Type 0 where
+    (refuses : List ℕ → ℕ → ℕ → Type 0) (said : C → Out → List ℕ) (meaning : Meaning D) (end : Option EndCause) (session : Session C) (store : Store D) (latest : ℕ) : Type 0 where
   pub wish : Wish
   pub is : IsEnd wish end
-  pub wishes : Wishes tags next_tag holds kind hears refuses said tells story wish session store latest
+  pub wishes : Wishes tags next_tag holds kind hears refuses said meaning wish session store latest
 
-module _ {C D : Type 0} (hears : List ℕ → Heard → Type 0) (refuses : List ℕ → ℕ → ℕ → Type 0) (said : C → Out → List ℕ) (tells : Bool) (story : D → Story) (faults calls : D → ℕ) (core : C) (terms : Terms) where
+module _ {C D : Type 0} (hears : List ℕ → Heard → Type 0) (refuses : List ℕ → ℕ → ℕ → Type 0) (said : C → Out → List ℕ) (meaning : Meaning D) (core : C) (terms : Terms) where
   -- where a talk is whose session wished nothing more: it would listen, or is over, and then the talk is that of a link that ended
   abbrev pub StandsAtEnd : Option EndCause → Talk → Session C → Type 0
   StandsAtEnd None later session = Stands hears refuses said core terms wish_is.Listen later session
@@ -184,14 +184,14 @@ module _ {C D : Type 0} (hears : List ℕ → Heard → Type 0) (refuses : List 
   -- The wishes of a session were done: its talk went on, while nothing was heard.
   pub record CarriedOn (talk : Talk) (old new : Course) (told now_told : Option (List ℕ)) (store after : Store D) (end : Option EndCause) (session : Session C) : Type 0 where
     pub later : Talk
-    pub talks : TalksOn tells story faults calls (said core) terms.link talk later old new told now_told store after
+    pub talks : TalksOn meaning (said core) terms.link talk later old new told now_told store after
     pub unheard : later.heard ≡ talk.heard
     pub stands : StandsAtEnd end later session
 
   -- The same where something is wished: nothing was heard since, and where the session is over its talk is that of a link.
   pub record Carries (talk : Talk) (old new : Course) (told now_told : Option (List ℕ)) (store after : Store D) (wish : Wish) (session : Session C) : Type 0 where
     pub later : Talk
-    pub talks : TalksOn tells story faults calls (said core) terms.link talk later old new told now_told store after
+    pub talks : TalksOn meaning (said core) terms.link talk later old new told now_told store after
     pub unheard : later.heard ≡ talk.heard
     pub stands : Stands hears refuses said core terms wish later session
     pub ended : (cause : EndCause) → wish ≡ wish_is.Over cause

@@ -33,12 +33,12 @@ pub fn turn_solo<C: LinkCore, D: Disk, P: Peer, K: Clock>(
     clock: &mut K,
     stop: bool,
 ) -> Turned
-    requires may { turn.MayTurn C.tags C.next_tag C.holds C.kind C.hears C.refuses C.said D.tells D.story session.old store.old (K.latest clock.old) }
-    ensures again { turn.MayTurnAgain C.tags C.next_tag C.holds C.kind C.hears C.refuses C.said D.tells D.story session.old result session.new store.new (K.latest clock.new) }
+    requires may { turn.MayTurn C.tags C.next_tag C.holds C.kind C.hears C.refuses C.said D.meaning session.old store.old (K.latest clock.old) }
+    ensures again { turn.MayTurnAgain C.tags C.next_tag C.holds C.kind C.hears C.refuses C.said D.meaning session.old result session.new store.new (K.latest clock.new) }
     ensures rules { rules_in store.new ≡ rules_in store.old }
     ensures counts { turn.CountsTurn (spec.IsFresh session.old) stop result (P.course peer.old).counts (P.course peer.new).counts }
     ensures law { steps.Always (λ core terms talk. steps.Stands C.hears C.refuses C.said core terms Wish.Listen talk session.old
-        → turn.Turning D.tells D.story D.faults D.calls C.hears C.refuses C.said core terms talk (P.course peer.old) (P.course peer.new)
+        → turn.Turning D.meaning C.hears C.refuses C.said core terms talk (P.course peer.old) (P.course peer.new)
         (K.readings clock.old) (K.readings clock.new) store.old store.new result session.new) }
 {
     let given = first(alloc, session.is_fresh(), peer, stop);
@@ -69,14 +69,14 @@ fn carry_out<C: LinkCore, D: Disk, P: Peer, K: Clock>(
     clock: &mut K,
     stop: bool,
 ) -> Option<EndCause>
-    requires wishes { doing.Wishes C.tags C.next_tag C.holds C.kind C.hears C.refuses C.said D.tells D.story first session.old store.old (K.latest clock.old) }
-    ensures done { doing.IsDone C.tags C.next_tag C.holds C.kind C.hears C.refuses C.said D.tells D.story result session.new store.new (K.latest clock.new) }
+    requires wishes { doing.Wishes C.tags C.next_tag C.holds C.kind C.hears C.refuses C.said D.meaning first session.old store.old (K.latest clock.old) }
+    ensures done { doing.IsDone C.tags C.next_tag C.holds C.kind C.hears C.refuses C.said D.meaning result session.new store.new (K.latest clock.new) }
     ensures terms { spec.terms_of session.new ≡ spec.terms_of session.old }
     ensures rules { rules_in store.new ≡ rules_in store.old }
     ensures stop { doing.IsToStop stop result }
     ensures counts { doing.CountsCause stop (weight.cause_in first session.old.phase) result (P.course peer.old).counts (P.course peer.new).counts }
     ensures law { steps.Always (λ core terms talk. steps.Stands C.hears C.refuses C.said core terms first talk session.old
-        → doing.CarriedOn C.hears C.refuses C.said D.tells D.story D.faults D.calls core terms talk (P.course peer.old) (P.course peer.new)
+        → doing.CarriedOn C.hears C.refuses C.said D.meaning core terms talk (P.course peer.old) (P.course peer.new)
         (K.readings clock.old) (K.readings clock.new) store.old store.new result session.new) }
 {
     let mut wish = first;
@@ -97,10 +97,10 @@ fn fulfil<D: Disk, P: Peer>(
     peer: &mut P,
     stop: bool,
 ) -> Result<Given, Option<EndCause>>
-    requires kept { IsOpen D.tells D.story store.old }
+    requires kept { IsOpen D.meaning store.old }
     requires ids { HaveIds (rules_in store.old) }
     requires may { doing.MayDo store.old wish }
-    ensures ok { IfOk result (λ given. doing.Does D.tells D.story D.faults D.calls link stop wish given (P.course peer.old) (P.course peer.new) store.old store.new) }
+    ensures ok { IfOk result (λ given. doing.Does D.meaning link stop wish given (P.course peer.old) (P.course peer.new) store.old store.new) }
     ensures err { IfErr result (λ end. doing.IsEnd wish end × doing.IsToStop stop end × (P.course peer.new ≡ P.course peer.old) × (store.new ≡ store.old)) }
 {
     match wish {

@@ -14,7 +14,7 @@ use Rattle.boxes_main.proofs.link_session.serve_link.Goals as goal
 pub call-held-requires : goal.call-held-requires
 call-held-requires g c =
     record {
-      may = subst (λ n. MayTurn last_tag next_tag (λ tag. tag < 2 ^ 32) Smpp Hears Refuses smpp.said g.H.D.Disk.tells g.H.D.Disk.story c.args.session c.args.store n)
+      may = subst (λ n. MayTurn last_tag next_tag (λ tag. tag < 2 ^ 32) Smpp Hears Refuses smpp.said g.H.D.Disk.meaning c.args.session c.args.store n)
           (sym c.clock-clock.ensures.clock.no_latest) c.requires.may;
     }
 
@@ -25,7 +25,7 @@ returns g c =
     let disk = g.H.D.Disk in
     let centre = c.args.centre.now in
     let number = c.args.link in
-    serves_link_by disk.tells disk.story disk.faults disk.calls g.H.C.Clock.readings g.H.Di.Dialer.dealings number centre
+    serves_link_by disk.meaning g.H.C.Clock.readings g.H.Di.Dialer.dealings number centre
     c.clock-clock.result c.call-held.new.clock c.dialer-dialer.result c.call-held.new.dialer c.args.store c.call-held.new.store c.close.result c.args.session
     c.clock-clock.ensures.clock.unread c.dialer-dialer.ensures.dialer c.requires.may c.requires.new_one c.close.ensures.disk c.close.ensures.stands c.close.ensures.stops
     (rooms c.args.house.now) (rooms c.clock-clock.new.self) (rooms c.dialer-dialer.new.self) (stock c.args.house.now) (stock c.clock-clock.new.self) (stock c.dialer-dialer.new.self)

@@ -16,7 +16,7 @@ returns g c =
     let clocked = c.clock-clock.new.self in
     let lent = record (rooms clocked) { visitor = peer } in
     let s = c.serve_http-end.ensures in
-    serves_by course g.H.D.Disk.tells g.H.D.Disk.story g.H.D.Disk.faults g.H.D.Disk.calls g.H.C.Clock.readings c.args.opened.settings
+    serves_by course g.H.D.Disk.meaning g.H.C.Clock.readings c.args.opened.settings
     (rooms c.args.house.now) (rooms clocked) (rooms (g.H.House.with_rooms clocked lent))
     (stock c.args.house.now) (stock clocked) (stock (g.H.House.with_rooms clocked lent))
     peer c.args.opened.store c.serve_http-end.new.acceptor c.clock-clock.result c.serve_http-end.new.clock s.readings s.deeds c.serve_http-end.result c.close.result (map worker_of c.leave.result)

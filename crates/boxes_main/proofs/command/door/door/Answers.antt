@@ -20,7 +20,7 @@ returns-clause-usage g c =
     let house = c.args.house.now in
     let mid = c.run-ended.new.house in
     let ended = c.run-ended.result in
-    usage_by g.H.V.Meter.course g.H.S.Shelf.files g.H.S.Shelf.faults g.H.D.Disk.tells g.H.D.Disk.story g.H.D.Disk.faults g.H.D.Disk.calls g.H.C.Clock.readings
+    usage_by g.H.V.Meter.course g.H.S.Shelf.files g.H.S.Shelf.faults g.H.D.Disk.meaning g.H.C.Clock.readings
     (configuration_of (codes "door") c.args.words.now) (rooms house) (rooms mid) (stock house) (stock mid) (map worker_of ended.workers) ended.disk ended.failure
     c.run-ended.ensures.comes_to
 
@@ -40,8 +40,8 @@ returns-clause-comes_to g c =
     let ended = c.run-ended.result in
     let name = configuration_of (codes "door") c.args.words.now in
     subst (λ (r : Rooms g.row.H-V.Denot g.row.H-S.Denot g.row.H-Ou.Denot g.row.H-Er.Denot). ComesTo g.H.V.Meter.course g.H.S.Shelf.files g.H.S.Shelf.faults
-    g.H.D.Disk.tells g.H.D.Disk.story g.H.D.Disk.faults g.H.D.Disk.calls g.H.C.Clock.readings name (rooms house) r (stock house) (map worker_of ended.workers) ended.disk ended.failure)
+    g.H.D.Disk.meaning g.H.C.Clock.readings name (rooms house) r (stock house) (map worker_of ended.workers) ended.disk ended.failure)
     (sym c.tell_end.ensures.rooms)
-    (comes_to_told g.H.V.Meter.course g.H.S.Shelf.files g.H.S.Shelf.faults g.H.D.Disk.tells g.H.D.Disk.story g.H.D.Disk.faults g.H.D.Disk.calls g.H.C.Clock.readings
+    (comes_to_told g.H.V.Meter.course g.H.S.Shelf.files g.H.S.Shelf.faults g.H.D.Disk.meaning g.H.C.Clock.readings
     name (rooms house) (rooms mid) (stock house) (stock mid) (map worker_of ended.workers) ended.disk ended.failure (rooms c.tell_end.new.house).errors
     c.run-ended.ensures.comes_to)

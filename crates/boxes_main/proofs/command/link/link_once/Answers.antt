@@ -17,7 +17,7 @@ pub returns-clause-usage : goal.returns-clause-usage
 returns-clause-usage g c =
     let rooms = g.H.House.rooms in
     let ended = c.run-ended.result in
-    link_usage g.H.S.Shelf.files g.H.S.Shelf.faults g.H.D.Disk.tells g.H.D.Disk.story g.H.D.Disk.faults g.H.D.Disk.calls g.H.C.Clock.readings g.H.Di.Dialer.dealings
+    link_usage g.H.S.Shelf.files g.H.S.Shelf.faults g.H.D.Disk.meaning g.H.C.Clock.readings g.H.Di.Dialer.dealings
     (link_words (codes "link") c.args.words.now) (rooms c.args.house.now) (rooms c.run-ended.new.house) (g.H.House.stock c.args.house.now) (map worker_of ended.workers) ended.disk ended.failure
     c.run-ended.ensures.comes_to
 
@@ -40,8 +40,8 @@ returns-clause-comes_to g c =
     let ended = c.run-ended.result in
     let words = link_words (codes "link") c.args.words.now in
     subst (λ (r : Rooms g.row.H-V.Denot g.row.H-S.Denot g.row.H-Ou.Denot g.row.H-Er.Denot). ComesToLink g.H.S.Shelf.files g.H.S.Shelf.faults
-    g.H.D.Disk.tells g.H.D.Disk.story g.H.D.Disk.faults g.H.D.Disk.calls g.H.C.Clock.readings g.H.Di.Dialer.dealings words (rooms house) r (stock house) (map worker_of ended.workers) ended.disk ended.failure)
+    g.H.D.Disk.meaning g.H.C.Clock.readings g.H.Di.Dialer.dealings words (rooms house) r (stock house) (map worker_of ended.workers) ended.disk ended.failure)
     (sym c.tell_end.ensures.rooms)
-    (link_told g.H.S.Shelf.files g.H.S.Shelf.faults g.H.D.Disk.tells g.H.D.Disk.story g.H.D.Disk.faults g.H.D.Disk.calls g.H.C.Clock.readings g.H.Di.Dialer.dealings
+    (link_told g.H.S.Shelf.files g.H.S.Shelf.faults g.H.D.Disk.meaning g.H.C.Clock.readings g.H.Di.Dialer.dealings
     words (rooms house) (rooms mid) (stock house) (map worker_of ended.workers) ended.disk ended.failure (rooms c.tell_end.new.house).errors
     c.run-ended.ensures.comes_to)

@@ -12,7 +12,7 @@ returns g c = λ rules.
     let house = c.args.house.now in
     let output = c.print_totals-fault.new.output in
     let lent = record (rooms house) { output = output } in
-    shows_by course g.H.D.Disk.tells g.H.D.Disk.story g.H.D.Disk.faults g.H.D.Disk.calls rules (rooms house) (rooms (g.H.House.with_rooms house lent))
+    shows_by course g.H.D.Disk.meaning rules (rooms house) (rooms (g.H.House.with_rooms house lent))
     (stock house) (stock (g.H.House.with_rooms house lent)) output c.args.store c.totals.result c.close.result (map worker_of c.new.result)
     (g.met.H.House.rooms_with house lent) (g.met.H.House.stock_with house lent) c.status.result c.failure_of-failure.result c.print_totals-fault.result
     c.status.ensures c.failure_of-failure.ensures (ap (map worker_of) c.new.ensures)

@@ -12,9 +12,9 @@ returns-in-Ok g c =
     let house = c.args.house.now in
     let name = configuration_of (codes "show") c.args.words.now in
     let named : Some c.as_slice.result.now ≡ name = search rules in
-    let opens : Option (List ℕ) → Type 0 = λ name. Opens g.H.S.Shelf.files g.H.S.Shelf.faults g.H.D.Disk.tells g.H.D.Disk.story g.H.D.Disk.faults g.H.D.Disk.calls
+    let opens : Option (List ℕ) → Type 0 = λ name. Opens g.H.S.Shelf.files g.H.S.Shelf.faults g.H.D.Disk.meaning
     name (rooms house) (rooms c.open.new.house) (stock house) (stock c.open.new.house) c.in-Ok.field-0.settings c.in-Ok.field-0.store in
-    show_ends g.H.Ou.Meter.course g.H.S.Shelf.files g.H.S.Shelf.faults g.H.D.Disk.tells g.H.D.Disk.story g.H.D.Disk.faults g.H.D.Disk.calls
+    show_ends g.H.Ou.Meter.course g.H.S.Shelf.files g.H.S.Shelf.faults g.H.D.Disk.meaning
     name (rooms house) (rooms c.open.new.house) (rooms c.print.new.house) (stock house) (stock c.open.new.house) (stock c.print.new.house)
     c.in-Ok.field-0.settings c.in-Ok.field-0.store c.print.result.status c.print.result.failure c.print.result.disk (map worker_of c.print.result.workers)
     (subst opens named c.in-Ok.ensures.ok) (c.print.ensures c.in-Ok.field-0.settings.rules)

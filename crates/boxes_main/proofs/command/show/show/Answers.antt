@@ -19,7 +19,7 @@ returns-clause-usage g c =
     let house = c.args.house.now in
     let mid = c.run-ended.new.house in
     let ended = c.run-ended.result in
-    show_usage_by g.H.Ou.Meter.course g.H.S.Shelf.files g.H.S.Shelf.faults g.H.D.Disk.tells g.H.D.Disk.story g.H.D.Disk.faults g.H.D.Disk.calls
+    show_usage_by g.H.Ou.Meter.course g.H.S.Shelf.files g.H.S.Shelf.faults g.H.D.Disk.meaning
     (configuration_of (codes "show") c.args.words.now) (rooms house) (rooms mid) (stock house) (stock mid) ended.disk ended.failure c.run-ended.ensures.comes_to
 
 pub returns-clause-unvisited : goal.returns-clause-unvisited
@@ -38,8 +38,8 @@ returns-clause-comes_to g c =
     let ended = c.run-ended.result in
     let name = configuration_of (codes "show") c.args.words.now in
     subst (λ (r : Rooms g.row.H-V.Denot g.row.H-S.Denot g.row.H-Ou.Denot g.row.H-Er.Denot). ComesToShow g.H.Ou.Meter.course g.H.S.Shelf.files g.H.S.Shelf.faults
-    g.H.D.Disk.tells g.H.D.Disk.story g.H.D.Disk.faults g.H.D.Disk.calls name (rooms house) r (stock house) ended.disk ended.failure)
+    g.H.D.Disk.meaning name (rooms house) r (stock house) ended.disk ended.failure)
     (sym c.tell_end.ensures.rooms)
-    (shows_told g.H.Ou.Meter.course g.H.S.Shelf.files g.H.S.Shelf.faults g.H.D.Disk.tells g.H.D.Disk.story g.H.D.Disk.faults g.H.D.Disk.calls
+    (shows_told g.H.Ou.Meter.course g.H.S.Shelf.files g.H.S.Shelf.faults g.H.D.Disk.meaning
     name (rooms house) (rooms mid) (stock house) (stock mid) ended.disk ended.failure (rooms c.tell_end.new.house).errors
     c.run-ended.ensures.comes_to)
