@@ -3,6 +3,9 @@
 # its tests, the proof that its must-fail edits begin from, and the edits. What an earlier run kept costs nothing, so
 # `bench/ci_minutes.sh --anew` measures a gate from nothing; other words go to `rt ci` as they are.
 #
+# Once a minute the table so far is written to the file that it names at the start (CI_MINUTES, or one in the folder for temporary
+# files), so that a run which is broken off tells too.
+#
 # Each check is a process of its own. Once a tenth of a second this script reads what each has used so far, so that the
 # last tenth of each is missing from the sums.
 command -v rt >/dev/null 2>&1 || { echo "ci_minutes: the kit's command rt isn't on the PATH" >&2; exit 0; }
@@ -13,6 +16,7 @@ import collections
 import os
 import subprocess
 import sys
+import tempfile
 import time
 
 KINDS = ("own", "tests", "seed", "edits")
@@ -72,21 +76,33 @@ def note_checks(top):
                 left.append(pid)
 
 
+def table():
+    """What was used so far, by crate and kind."""
+    sums = collections.Counter()
+    for process, seconds in spent.items():
+        sums[known[process]] += seconds
+    crates = sorted({name for name, _ in sums}, key=lambda name: -sum(sums[name, kind] for kind in KINDS))
+    lines = [f"processor minutes of {(time.time() - started) / 60:.1f} minutes"]
+    lines.append("crate".ljust(16) + "".join(kind.rjust(8) for kind in (*KINDS, "all")))
+    for name in [*crates, "all"]:
+        row = [sum(sums[it, kind] for it in ([name] if name != "all" else crates)) / 60 for kind in KINDS]
+        lines.append(name.ljust(16) + "".join(f"{it:8.1f}" for it in (*row, sum(row))))
+    return "\n".join(lines)
+
+
 known, spent = {}, {}
-started = time.time()
+place = os.environ.get("CI_MINUTES") or os.path.join(tempfile.gettempdir(), "ci_minutes.txt")
+print(f"ci_minutes: the table so far is in {place}", file=sys.stderr)
+started = written = time.time()
 gate = subprocess.Popen(["rt", "ci", *sys.argv[1:]])
 while gate.poll() is None:
     note_checks(gate.pid)
+    if time.time() - written >= 60:
+        written = time.time()
+        with open(place, "w") as it:
+            it.write(table() + "\n")
     time.sleep(0.1)
 
-sums = collections.Counter()
-for process, seconds in spent.items():
-    sums[known[process]] += seconds
-crates = sorted({name for name, _ in sums}, key=lambda name: -sum(sums[name, kind] for kind in KINDS))
-print(f"\nprocessor minutes of {(time.time() - started) / 60:.1f} minutes")
-print("crate".ljust(16) + "".join(kind.rjust(8) for kind in (*KINDS, "all")))
-for name in [*crates, "all"]:
-    row = [sum(sums[it, kind] for it in ([name] if name != "all" else crates)) / 60 for kind in KINDS]
-    print(name.ljust(16) + "".join(f"{it:8.1f}" for it in (*row, sum(row))))
+print("\n" + table())
 sys.exit(gate.returncode)
 PYTHON

@@ -1,8 +1,12 @@
-# What the scripts with a centre share; each sources it behind setting `here`, the folder of the repository, and `port`, that of its centre. It skips
-# the script where Net::SMPP is missing, and makes the script fail where a comparison did.
+# What the scripts with a centre share; each sources it behind setting `here`, the folder of the repository, and `port`, that of its centre. It makes the
+# script fail where a comparison did.
 
-perl -MNet::SMPP -e 1 2> /dev/null || { echo "skipped: Net::SMPP isn't installed (Debian's package libnet-smpp-perl)"; exit 0; }
 failed=0
+
+# Skips the script where Net::SMPP is missing.
+needs_net_smpp() {
+    perl -MNet::SMPP -e 1 2> /dev/null || { echo "skipped: Net::SMPP isn't installed (Debian's package libnet-smpp-perl)"; exit 0; }
+}
 
 # Says whether what was seen is what was wanted.
 same() {
@@ -36,7 +40,11 @@ link() {
     script=$2
     shift 2
     rm -f heard
-    perl "$here/interop/$script" "$port" "$@" > heard 2>&1 &
+    case $script in
+        *.py) language=python3 ;;
+        *) language=perl ;;
+    esac
+    "$language" "$here/interop/$script" "$port" "$@" > heard 2>&1 &
     centre=$!
     for i in 1 2 3 4 5 6 7 8 9 10; do
         grep -q listening heard 2> /dev/null && break
@@ -46,4 +54,28 @@ link() {
     status=$?
     wait "$centre" || { echo "FAILED: the centre"; failed=1; }
     sed 's/^/    centre: /' heard
+}
+
+# Captures what goes over the loopback by a filter, in the folder of the run, where tshark may; else says why not.
+capture() {
+    tshark=
+    command -v tshark > /dev/null 2>&1 || { echo "not dissected: tshark isn't installed (Debian's package tshark)"; return; }
+    tshark -q -i lo -f "$1" -w talk.pcap 2> errors &
+    tshark=$!
+    for i in 1 2 3 4 5 6 7 8 9 10 11 12 13 14 15 16 17 18 19 20; do
+        [ -s talk.pcap ] && break
+        sleep 0.5
+    done
+    sleep 2
+    kill -0 "$tshark" 2> /dev/null && return
+    echo "not dissected: tshark may not capture on the loopback: $(tail -n 1 errors)"
+    tshark=
+}
+
+# Ends the capture. Whether there is one.
+captured() {
+    [ -n "$tshark" ] || return 1
+    sleep 2
+    kill -INT "$tshark" && wait "$tshark" 2> /dev/null
+    return 0
 }

@@ -8,6 +8,7 @@
 here=$(CDPATH= cd -- "$(dirname -- "$0")/.." && pwd) || exit 1
 port=${PORT:-12776}
 . "$here/interop/common.sh"
+needs_net_smpp
 begin "$1"
 
 # Asks for a message with a text and a mask, and a URL that names both.

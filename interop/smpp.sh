@@ -7,6 +7,7 @@
 here=$(CDPATH= cd -- "$(dirname -- "$0")/.." && pwd) || exit 1
 port=${PORT:-12775}
 . "$here/interop/common.sh"
+needs_net_smpp
 begin "$1"
 sed 's/^smsc-password = .*/smsc-password = wrong/' gate.conf > wrong.conf
 

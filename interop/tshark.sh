@@ -8,22 +8,17 @@ here=$(CDPATH= cd -- "$(dirname -- "$0")/.." && pwd) || exit 1
 port=${PORT:-12775}
 reports=$((port + 1))
 . "$here/interop/common.sh"
-command -v tshark > /dev/null 2>&1 || { echo "skipped: tshark isn't installed (Debian's package tshark)"; exit 0; }
+needs_net_smpp
+program=$(realpath -- "${1:-$here/boxes}") || exit 1
 room=$(mktemp -d) || exit 1
 trap 'kill "$tshark" 2> /dev/null; rm -rf "$room"' EXIT
-tshark -q -i lo -f "tcp port $port or tcp port $reports" -w "$room/talk.pcap" 2> "$room/errors" &
-tshark=$!
-for i in 1 2 3 4 5 6 7 8 9 10 11 12 13 14 15 16 17 18 19 20; do
-    [ -s "$room/talk.pcap" ] && break
-    sleep 0.5
-done
-sleep 2
-kill -0 "$tshark" 2> /dev/null || { echo "skipped: tshark may not capture on the loopback: $(tail -n 1 "$room/errors")"; exit 0; }
+cd "$room" || exit 1
+capture "tcp port $port or tcp port $reports"
+[ -n "$tshark" ] || exit 0
 for run in "$port smpp.sh" "$reports receipts.sh"; do
-    PORT=${run% *} "$here/interop/${run#* }" "$@" > "$room/run" 2>&1 || { cat "$room/run"; echo "FAILED: ${run#* }"; exit 1; }
+    PORT=${run% *} "$here/interop/${run#* }" "$program" > "$room/run" 2>&1 || { cat "$room/run"; echo "FAILED: ${run#* }"; exit 1; }
 done
-sleep 2
-kill -INT "$tshark" && wait "$tshark" 2> /dev/null
+captured
 
 # Fields of the frames that a filter takes, a line a packet; several frames of a packet have commas between them.
 dissect() { filter=$1; shift; tshark -r "$room/talk.pcap" -d "tcp.port==$port,smpp" -d "tcp.port==$reports,smpp" -Y "$filter" -T fields "$@" 2> /dev/null; }

@@ -90,7 +90,10 @@ fn read_within<D: Disk>(disk: &mut D, area: Area, octets: &mut [u8; 4]) -> Resul
 }
 
 /// Writes to an area in two places, reads behind its first octet, and cuts it and syncs it; puts the sizes of two areas last.
-fn write_and_read<D: Disk>(disk: &mut D, octets: &mut [u8; 4]) -> Result<(u64, u64), DiskFailed> {
+pub fn write_and_read<D: Disk>(
+    disk: &mut D,
+    octets: &mut [u8; 4],
+) -> Result<(u64, u64), DiskFailed> {
     write_within(disk, Area::B, 0, b"abcdef")?;
     write_within(disk, Area::B, 2, b"XY")?;
     read_within(disk, Area::B, octets)?;

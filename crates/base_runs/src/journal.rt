@@ -72,9 +72,9 @@ fn put_ran(report: &mut Octets, ran: Ran) -> Result<(), Memory> {
 
 /// The payloads that are left, each with a bar behind it.
 fn hand_out<D: Disk>(alloc: Global, journal: &mut Journal<D>) -> Result<Octets, Memory>
-    requires { IsKept D.tells D.story journal.old }
+    requires { IsKept D.meaning journal.old }
     ensures ended { OnOk result (IsHandedOut journal.new) }
-    ensures kept { OnOk result (IsKept D.tells D.story journal.new) }
+    ensures kept { OnOk result (IsKept D.meaning journal.new) }
 {
     let mut all = Octets::new(alloc);
     'payloads: loop {
@@ -115,10 +115,10 @@ fn is_payload(octets: &[u8]) -> bool
 
 /// Repairs what is unsure, and appends a payload. Whether both were good.
 fn append_after<D: Disk>(journal: &mut Journal<D>, payload: &[u8]) -> Result<bool, Memory>
-    requires kept { IsKept D.tells D.story journal.old }
+    requires kept { IsKept D.meaning journal.old }
     requires ended { IsHandedOut journal.old }
     requires size { IsPayload payload.now }
-    ensures kept { OnOk result (IsKept D.tells D.story journal.new) }
+    ensures kept { OnOk result (IsKept D.meaning journal.new) }
     ensures ended { OnOk result (IsHandedOut journal.new) }
 {
     if journal.repair().is_err() {
@@ -130,10 +130,10 @@ fn append_after<D: Disk>(journal: &mut Journal<D>, payload: &[u8]) -> Result<boo
 
 /// Appends a payload.
 fn append_to<D: Disk>(journal: &mut Journal<D>, payload: &[u8]) -> Result<Ran, Memory>
-    requires kept { IsKept D.tells D.story journal.old }
+    requires kept { IsKept D.meaning journal.old }
     requires ended { IsHandedOut journal.old }
     requires size { IsPayload payload.now }
-    ensures kept { OnOk result (IsKept D.tells D.story journal.new) }
+    ensures kept { OnOk result (IsKept D.meaning journal.new) }
     ensures ended { OnOk result (IsHandedOut journal.new) }
 {
     let in_append = !append_after(journal, payload)?;
@@ -155,7 +155,7 @@ fn append_again<D: Disk>(
     payload: &[u8],
     again: bool,
 ) -> Result<Ran, Memory>
-    requires kept { IsKept D.tells D.story journal.old }
+    requires kept { IsKept D.meaning journal.old }
     requires ended { IsHandedOut journal.old }
     requires size { IsPayload payload.now }
 {
@@ -197,7 +197,7 @@ fn payloads<D: Disk + Drop>(alloc: Global, disk: D) -> Result<(D, Octets), Memor
 
 /// Appends so many payloads of 66 octets.
 fn append_many<D: Disk>(journal: &mut Journal<D>, count: u8) -> Result<(), OpenFault>
-    requires kept { IsKept D.tells D.story journal.old }
+    requires kept { IsKept D.meaning journal.old }
     requires ended { IsHandedOut journal.old }
 {
     for number in 0..count {
@@ -214,7 +214,7 @@ fn with_many<D: Disk + Drop>(
     journal: Journal<D>,
     count: u8,
 ) -> Result<(D, bool), Memory>
-    requires { IsKept D.tells D.story journal }
+    requires { IsKept D.meaning journal }
 {
     let mut journal = journal;
     hand_out(alloc, &mut journal)?;
@@ -449,7 +449,7 @@ fn failing_line(alloc: Global, text: &[u8], call: u64) -> Result<(Octets, bool),
 
 /// Appends the words to a journal, one by one, whether the one before was good or failed.
 fn append_words<D: Disk>(journal: &mut Journal<D>, words: &[u8]) -> Result<(), Memory>
-    requires kept { IsKept D.tells D.story journal.old }
+    requires kept { IsKept D.meaning journal.old }
     requires ended { IsHandedOut journal.old }
 {
     let mut rest = words;

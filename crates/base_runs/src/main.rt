@@ -7,6 +7,7 @@ mod acts;
 mod digits;
 mod disks;
 mod fake;
+mod fake_files;
 mod files;
 mod journal;
 mod lists;
@@ -104,13 +105,15 @@ fn put_memory(alloc: Global, text: &[u8], report: &mut Octets) -> Result<(), Mem
     }
 }
 
-/// `fake peer`, `fake errors`, `fake clock`.
+/// `fake peer`, `fake errors`, `fake clock`, `fake files`.
 fn put_fake(alloc: Global, text: &[u8], report: &mut Octets) -> Result<(), Memory> {
     let (kind, text) = cut_at(text, b' ');
     if kind == b"peer".as_slice() {
         machine::put_fake_peer(alloc, text, report)
     } else if kind == b"errors".as_slice() {
         machine::put_fake_errors(alloc, text, report)
+    } else if kind == b"files".as_slice() {
+        fake_files::put_fake_files(alloc, report)
     } else {
         machine::put_fake_clock(alloc, text, report)
     }

@@ -264,7 +264,7 @@ module _ {D : Type 0} (meaning : Meaning D) (rules : Rules) (link : ℕ) where
           amid = told_leaves_weaker tells first (meaning.story (disk_in new)) (ReopensAmid rules link birth entries deeds) (ReopensAmid rules link birth entries (deed ∷ deeds))
               (still_amid birth entries deeds deed)
               (subst (λ (d : D). OnTrue meaning.tells (LeavesOnly first (story d) (ReopensAmid rules link birth entries deeds))) (sym stays.disk) was.amid);
-          rose = subst (λ (d : D). IfSome (unsure_in new) (λ _. Rose 0 (faults d))) (sym stays.disk)
+          rose = subst (λ (d : D). IfSome (unsure_in new) (λ _. Rose 0 (meaning.faults d))) (sym stays.disk)
               (subst (λ (u : Option Recorded). IfSome u (λ _. Rose 0 (meaning.faults (disk_in old)))) (sym stays.unsure) was.rose);
           bounded = omega (arith, fewer, same);
         }
@@ -348,9 +348,9 @@ module _ {D : Type 0} (meaning : Meaning D) (rules : Rules) (link : ℕ) where
         back = same;
         unsure_is = refl;
         doubt = behind.doubt;
-        rose = subst (λ (d : D). IfSome (unsure_in closed) (λ _. Rose 0 (faults d))) (sym same) behind.rose;
+        rose = subst (λ (d : D). IfSome (unsure_in closed) (λ _. Rose 0 (meaning.faults d))) (sym same) behind.rose;
         stands = closes_as (birth_in opened) all behind.holds;
-        stops = told_weaker tells _ _
+        stops = told_weaker meaning.tells _ _
             (λ reopens image here. alike_may (birth_in opened) rules (state_in closed) (state_of (birth_in opened) rules all) (unsure_in closed) image settled
             (subst (λ (r : Rules). MayReopen (birth_in opened) r (state_in closed) (unsure_in closed) image) behind.ruled
             (subst (λ b. MayReopen b (rules_in closed) (state_in closed) (unsure_in closed) image) behind.born (reopens image here))))

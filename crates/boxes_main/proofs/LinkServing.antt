@@ -118,7 +118,7 @@ module _
     -- a fault of the disk is told only where its count rose
     disk_rose : (unsure : Option Recorded) (cause : EndCause) (heard spoken readings : List ℕ) (deeds : List Deed) → meaning.faults (disk_in store) ≡ 0 → IfSome unsure (λ _. Rose 0 (faults disk))
         → LinkTalk Hears Refuses (said_to centre) (terms_for number centre) heard spoken readings deeds (talk_cause cause)
-        → Leads meaning number store deeds after → DiskRose (link_fault (is_some unsure) cause) (faults disk)
+        → Leads meaning number store deeds after → DiskRose (link_fault (is_some unsure) cause) (meaning.faults disk)
     disk_rose (Some kept) cause heard spoken readings deeds none rose talk led = rose
     disk_rose None end_is.Disk heard spoken readings deeds none rose talk led =
         subst (λ (d : D). Rose 0 (faults d)) (sym same) (subst (λ n. Rose n (meaning.faults (disk_in after))) none

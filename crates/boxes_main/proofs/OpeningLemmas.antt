@@ -21,7 +21,7 @@ module _
     (settings : Settings) (before made after : Stock) (birth : ℕ) (disk : D) where
   -- the store of settings is opened on a new disk
   pub opens_by : MakesOne before made → after ≡ made → IsToldWord made.word birth
-      → IsNewDisk tells (story disk) (calls disk) (faults disk) (before.disks settings.core.store_file)
+      → IsNewDisk meaning.tells (meaning.story disk) (meaning.calls disk) (meaning.faults disk) (before.disks settings.core.store_file)
       → (it : Store D) → IsOpened meaning disk settings.rules birth it
       → OpensStore meaning settings before after it
   opens_by makes same told new_disk it is = record {
@@ -35,7 +35,7 @@ module _
 
   -- or none is opened on it
   pub none_by : MakesOne before made → after ≡ made
-      → IsNewDisk tells (story disk) (calls disk) (faults disk) (before.disks settings.core.store_file)
+      → IsNewDisk meaning.tells (meaning.story disk) (meaning.calls disk) (meaning.faults disk) (before.disks settings.core.store_file)
       → (back : D) (fault : StoreFault) → GivesBack meaning disk settings.rules back fault
       → OpensNone meaning settings before after (failure_is.Store fault) (Some back)
   none_by makes same new_disk back fault is = record {

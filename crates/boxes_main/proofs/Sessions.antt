@@ -61,17 +61,17 @@ module _
   turns = subst (λ (r : Rules). AreInTurn (birth_in store) (start r) is.entries) is.ruled is.holds.in_turn
 
   -- a store that was opened is what the areas stood for
-  pub found_by : (word : Option ℕ) → IsToldWord word birth → IsFound tells areas word rules (birth_in store) is.entries
+  pub found_by : (word : Option ℕ) → IsToldWord word birth → IsFound meaning.tells areas word rules (birth_in store) is.entries
   found_by word told = record {
     in_turn = turns;
-    stood = told_both tells _ _ _ (λ same stood. subst (λ (s : Story). StandsFor (stands (reads s)) (birth_in store) is.entries) same stood) new_disk.told is.stood;
-    born = told_both tells _ _ _
+    stood = told_both meaning.tells _ _ _ (λ same stood. subst (λ (s : Story). StandsFor (stands (reads s)) (birth_in store) is.entries) same stood) new_disk.told is.stood;
+    born = told_both meaning.tells _ _ _
         (λ same born unborn_then. subst (λ n. IsToldWord word n) (sym (born (subst (λ (s : Story). stands (reads s) ≡ unborn) (sym same) unborn_then))) told) new_disk.told is.born;
   }
 
   -- whenever the opening stopped, the areas reopen to the state that it found
   pub opened_stops : OnTrue meaning.tells (LeavesOnly (untold areas) (meaning.story (disk_in store)) (ReopensTo rules (state_of (birth_in store) rules is.entries)))
-  opened_stops = told_three tells _ _ _ _
+  opened_stops = told_three meaning.tells _ _ _ _
       (λ same stood alike. opening_stops (story disk) (meaning.story (disk_in store)) areas rules (birth_in store) is.entries same stood turns alike) new_disk.told is.stood is.stops
 
   -- no disk call failed, and few were made
@@ -131,7 +131,7 @@ module _ {D : Type 0} (meaning : Meaning D) where
             (told_leaves_weaker tells (untold areas) (meaning.story (disk_in store)) (ReopensTo rules (state_of birth_there rules is.entries)) (ReopensAmid birth_there rules is.entries deeds)
             (amid_first birth_there rules is.entries deeds) (opened_stops meaning areas found rules birth store new_disk is)) led);
         counted = counted_by (meaning.faults (disk_in store)) (meaning.faults (disk_in later)) (faults disk) deeds
-            (opened_unfailed meaning areas found rules birth store new_disk is) (ap faults same) counts;
+            (opened_unfailed meaning areas found rules birth store new_disk is) (ap meaning.faults same) counts;
         bounded = let here : calls disk ≡ meaning.calls (disk_in later) = ap calls same in omega (arith, here, calls_more, calls_first);
         failed = refl;
       }
@@ -166,8 +166,8 @@ module _
               (closes (birth_in store) is.entries is.holds);
           stops = subst (λ (d : D). OnTrue meaning.tells (LeavesOnly (untold areas) (story d) (ReopensTo rules (state_of (birth_in store) rules is.entries)))) (sym same)
               (opened_stops meaning areas found rules birth store new_disk is);
-          unfailed = ap faults same ∙ opened_unfailed meaning areas found rules birth store new_disk is;
-          bounded = subst (λ (d : D). calls d ≤ 20) (sym same) (opened_calls meaning areas found rules birth store new_disk is);
+          unfailed = ap meaning.faults same ∙ opened_unfailed meaning areas found rules birth store new_disk is;
+          bounded = subst (λ (d : D). meaning.calls d ≤ 20) (sym same) (opened_calls meaning areas found rules birth store new_disk is);
         };
       }
 

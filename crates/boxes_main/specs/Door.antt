@@ -96,7 +96,7 @@ module _ {D : Type 0} (meaning : Meaning D) where
       (settings : Settings) (areas : Areas) (word : Option ℕ) (old new : Course) (readings : List ℕ) (end : HttpEnd) (disk : D) (fault : Option SessionFault) : Type 0 where
     pub birth : ℕ
     pub entries : List Recorded
-    pub found : IsFound tells areas word settings.rules birth entries
+    pub found : IsFound meaning.tells areas word settings.rules birth entries
     pub deeds : List Deed
     pub talks : Talks settings octets_limit old new readings deeds end
     pub reasoned : AreReasoned birth settings.rules (state_of birth settings.rules entries) deeds
@@ -106,8 +106,8 @@ module _ {D : Type 0} (meaning : Meaning D) where
     pub stands : OnTrue meaning.tells ((image : Areas) → IsImage (story disk) image → MayStandFor birth (entries ++ done_of deeds) unsure image)
     pub stops : OnTrue meaning.tells ((image : Areas) → IsImage (story disk) image → MayReopen birth settings.rules (state_of birth settings.rules (entries ++ done_of deeds)) unsure image)
     pub amid : OnTrue meaning.tells (LeavesOnly (untold areas) (story disk) (ReopensAmid birth settings.rules entries deeds))
-    pub counted : CountsFaults 0 (faults disk) deeds
-    pub bounded : calls disk ≤ 20 + 6 * length deeds
+    pub counted : CountsFaults 0 (meaning.faults disk) deeds
+    pub bounded : meaning.calls disk ≤ 20 + 6 * length deeds
     pub failed : fault ≡ fault_by (is_some unsure) end
 
 module _ {D C L : Type 0} (meaning : Meaning D) (readings_of : C → Option (List ℕ)) where

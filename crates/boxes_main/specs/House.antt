@@ -31,7 +31,7 @@ MakesFor (Some disk) old new = MakesOne old new
 
 -- A disk that has made no call: where it tells its story, nothing was done to the stated areas.
 pub record IsNewDisk (tells : Bool) (story : Story) (calls faults : ℕ) (stated : Areas) : Type 0 where
-  pub told : OnTrue meaning.tells (story ≡ untold stated)
+  pub told : OnTrue tells (story ≡ untold stated)
   pub no_calls : calls ≡ 0
   pub no_faults : faults ≡ 0
 

@@ -162,7 +162,7 @@ module _ {D : Type 0} (meaning : Meaning D) where
   pub record IsKept (rules : Rules) (number : ℕ) (areas : Areas) (word : Option ℕ) (deeds : List Deed) (disk : D) (unsure : Option Recorded) : Type 0 where
     pub birth : ℕ
     pub entries : List Recorded
-    pub found : IsFound tells areas word rules birth entries
+    pub found : IsFound meaning.tells areas word rules birth entries
     pub opened : Stored D
     pub closed : Stored D
     pub ruled : rules_in opened ≡ rules
@@ -172,12 +172,12 @@ module _ {D : Type 0} (meaning : Meaning D) where
     pub back : disk ≡ disk_in closed
     pub unsure_is : unsure ≡ unsure_in closed
     pub doubt : IfSome unsure (IsInDoubt rules number deeds)
-    pub rose : IfSome unsure (λ _. Rose 0 (faults disk))
+    pub rose : IfSome unsure (λ _. Rose 0 (meaning.faults disk))
     pub stands : OnTrue meaning.tells ((image : Areas) → IsImage (story disk) image → MayStandFor birth (entries ++ recorded_in rules number deeds) unsure image)
     pub stops : OnTrue meaning.tells ((image : Areas) → IsImage (story disk) image → MayReopen birth rules (state_of birth rules (entries ++ recorded_in rules number deeds)) unsure image)
     pub reports : HaveReports birth (state_of birth rules entries) (recorded_in rules number deeds) (state_in closed)
     pub amid : OnTrue meaning.tells (LeavesOnly (untold areas) (story disk) (ReopensAmid rules number birth entries deeds))
-    pub bounded : calls disk ≤ 20 + 6 * length deeds
+    pub bounded : meaning.calls disk ≤ 20 + 6 * length deeds
 
 -- a fault of the disk is told only where its count rose
 abbrev pub DiskRose : Option LinkFault → (faults : ℕ) → Type 0
@@ -219,7 +219,7 @@ module _ {D C L : Type 0} (meaning : Meaning D) (readings_of : C → Option (Lis
     pub unsure : Option Recorded
     pub kept : IsKept meaning rules number areas word deeds after unsure
     pub failed : fault ≡ link_fault (is_some unsure) cause
-    pub rose : DiskRose fault (faults after)
+    pub rose : DiskRose fault (meaning.faults after)
 
   -- The centre was dialled, and no connection made: the count of failed dials rose, or the dialer has no peers. No session was held, and the store is
   -- as it was.

@@ -192,7 +192,7 @@ pub record IsNewSession (number : ℕ) (centre : LinkSettings) (session : Sessio
   pub sound : IsSession last_tag next_tag (λ tag. tag < 2 ^ 32) session
 
 -- it may have its first turn over a store
-abbrev pub MayBegin : {D : Type 0} → (tells : Bool) → (D → Story) → Session BindFields → Stored D → Type 0
+abbrev pub MayBegin : {D : Type 0} → Meaning D → Session BindFields → Stored D → Type 0
 MayBegin meaning session store = MayTurn last_tag next_tag (λ tag. tag < 2 ^ 32) Smpp Hears Refuses smpp.said meaning session store 0
 
 -- the first link with the id stands there, and speaks this

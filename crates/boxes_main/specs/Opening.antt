@@ -40,7 +40,7 @@ module _ {S : Type 0} (files : S → Option (List (List ℕ × List ℕ))) (faul
 module _ {D : Type 0} (meaning : Meaning D) where
   -- a disk of the house, to which nothing was done yet, and whose areas are the stated ones where they are told
   abbrev pub IsHouseDisk : Areas → D → Type 0
-  IsHouseDisk areas disk = IsNewDisk tells (story disk) (calls disk) (faults disk) areas
+  IsHouseDisk areas disk = IsNewDisk meaning.tells (meaning.story disk) (meaning.calls disk) (meaning.faults disk) areas
 
   -- No store was opened on a disk of the house, which is handed back: why, and that nothing that it held is lost, whenever it stopped.
   pub record GivesDiskBack (areas : Areas) (rules : Rules) (back : D) (fault : StoreFault) : Type 0 where
@@ -56,8 +56,8 @@ module _ {D : Type 0} (meaning : Meaning D) where
 -- house's word.
 pub record IsFound (tells : Bool) (areas : Areas) (word : Option ℕ) (rules : Rules) (birth : ℕ) (entries : List Recorded) : Type 0 where
   pub in_turn : AreInTurn birth (start rules) entries
-  pub stood : OnTrue meaning.tells (StandsFor (stands areas) birth entries)
-  pub born : OnTrue meaning.tells (stands areas ≡ unborn → IsToldWord word birth)
+  pub stood : OnTrue tells (StandsFor (stands areas) birth entries)
+  pub born : OnTrue tells (stands areas ≡ unborn → IsToldWord word birth)
 
 module _
     {S D : Type 0} (files : S → Option (List (List ℕ × List ℕ))) (shelf_faults : S → ℕ)

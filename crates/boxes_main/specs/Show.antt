@@ -53,14 +53,14 @@ module _ {D : Type 0} (meaning : Meaning D) where
   pub record IsShown (areas : Areas) (word : Option ℕ) (rules : Rules) (old new : Course) (disk : Option D) (fault : Option OutputFault) : Type 0 where
     pub birth : ℕ
     pub entries : List Recorded
-    pub found : IsFound tells areas word rules birth entries
+    pub found : IsFound meaning.tells areas word rules birth entries
     pub prints : Prints (show_text (totals_of (state_of birth rules entries))) fault old new
     pub after : D
     pub handed_back : disk ≡ Some after
     pub stands : OnTrue meaning.tells ((image : Areas) → IsImage (story after) image → MayStandFor birth entries None image)
     pub stops : OnTrue meaning.tells (LeavesOnly (untold areas) (story after) (ReopensTo rules (state_of birth rules entries)))
-    pub unfailed : faults after ≡ 0
-    pub bounded : calls after ≤ 20
+    pub unfailed : meaning.faults after ≡ 0
+    pub bounded : meaning.calls after ≤ 20
 
 module _
     {V S O E D : Type 0} (course : O → Course) (files : S → Option (List (List ℕ × List ℕ))) (shelf_faults : S → ℕ)

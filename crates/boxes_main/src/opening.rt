@@ -31,7 +31,7 @@ pub(crate) fn read_settings<H: House>(
 ) -> Result<Settings, ConfigFault>
     ensures rooms { H.rooms house.new ≡ record (H.rooms house.old) { shelf = (H.rooms house.new).shelf } }
     ensures stock { H.stock house.new ≡ H.stock house.old }
-    ensures reads { Reads H.S.files H.S.meaning.faults name.now (H.rooms house.old).shelf (H.rooms house.new).shelf result }
+    ensures reads { Reads H.S.files H.S.faults name.now (H.rooms house.old).shelf (H.rooms house.new).shelf result }
     ensures ranges { IfOk result AreSettings }
 {
     read_config(alloc, house.shelf(), name)
@@ -41,9 +41,9 @@ pub(crate) fn read_settings<H: House>(
 fn configured<H: House>(alloc: Global, house: &mut H, name: &[u8]) -> Result<Settings, Failure>
     ensures rooms { H.rooms house.new ≡ record (H.rooms house.old) { shelf = (H.rooms house.new).shelf } }
     ensures stock { H.stock house.new ≡ H.stock house.old }
-    ensures settings { IfOk result (IsConfigured H.S.files H.S.meaning.faults (Some name.now) (H.rooms house.old).shelf (H.rooms house.new).shelf) }
+    ensures settings { IfOk result (IsConfigured H.S.files H.S.faults (Some name.now) (H.rooms house.old).shelf (H.rooms house.new).shelf) }
     ensures ranges { IfOk result AreSettings }
-    ensures refused { IfErr result (IsNotOpen H.S.files H.S.meaning.faults H.D.meaning
+    ensures refused { IfErr result (IsNotOpen H.S.files H.S.faults H.D.meaning
         (Some name.now) (H.rooms house.old).shelf (H.rooms house.new).shelf (H.stock house.old) None) }
 {
     match read_settings(alloc, house, name) {
@@ -96,9 +96,9 @@ pub(crate) fn open<H: House>(
     house: &mut H,
     name: &[u8],
 ) -> Result<Opened<H>, Unopened<H>>
-    ensures ok { IfOk result (λ opened. Opens H.S.files H.S.meaning.faults H.D.meaning
+    ensures ok { IfOk result (λ opened. Opens H.S.files H.S.faults H.D.meaning
         (Some name.now) (H.rooms house.old) (H.rooms house.new) (H.stock house.old) (H.stock house.new) opened.settings opened.store) }
-    ensures err { IfErr result (λ unopened. OpensNothing H.S.files H.S.meaning.faults H.D.meaning
+    ensures err { IfErr result (λ unopened. OpensNothing H.S.files H.S.faults H.D.meaning
         (Some name.now) (H.rooms house.old) (H.rooms house.new) (H.stock house.old) (H.stock house.new) unopened.failure unopened.disk) }
 {
     match configured(alloc, house, name) {

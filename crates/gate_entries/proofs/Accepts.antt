@@ -1,5 +1,5 @@
 -- An entry of messages that were taken together has as many octets as its size says.
-use Rattle.std.proofs.Common.{◌≡◌, ℕ, ◌+◌, length, arith}
+use Rattle.std.proofs.Common.{◌≡◌, length, arith}
 use Rattle.std.proofs.lemmas.List.Concat.{length-flat_map}
 use Rattle.sms_record.specs.Record.{sms_octets}
 use Rattle.gate_entries.specs.declared.accept.Accept.{Accept}

@@ -1,5 +1,4 @@
 pub mod Parts
-pub mod Rows
 pub mod Entries
 pub mod Accepts
 pub mod Alone

@@ -1,5 +1,5 @@
 -- The fields of entries are read exactly.
-use Rattle.std.proofs.Common.{◌≡◌, ℕ, zero, suc, ◌+◌, ◌-◌, ◌^◌, ◌<◌, ◌≤◌, true, List, [], ◌∷◌, ◌++◌, length, All, Option, Some, refl, sym, ap, arith}
+use Rattle.std.proofs.Common.{◌≡◌, ℕ, zero, suc, ◌-◌, ◌^◌, ◌≤◌, true, List, [], ◌∷◌, ◌++◌, length, All, Some, refl, sym, ap, arith}
 use Rattle.std.specs.Prelude.{⊤}
 use Rattle.std.specs.List.{flat_map, AllByRecursion}
 use Rattle.std.proofs.lemmas.List.Elements.{All-from_recursion, recursion_from_All}
@@ -10,7 +10,7 @@ use Rattle.exact_octets.specs.Reading.{value_of}
 use Rattle.exact_octets.proofs.Readers.{IsReader, then_reads, ◌&◌, made_reads, given_reads, repeated_reads, renamed_reads, reworded_reads}
 use Rattle.exact_octets.proofs.Tests.{Between, within_means}
 use Rattle.exact_octets.proofs.Digits.{from_to_reads, up_to_reads}
-use Rattle.exact_octets.proofs.Fields.{between_reads, counted_octets_reads}
+use Rattle.exact_octets.proofs.Fields.{counted_octets_reads}
 use Rattle.exact_octets.proofs.Choices.{code_reads, kind_reads}
 use Rattle.sms_record.specs.declared.kind.Kind.{Kind}
 use Rattle.sms_record.specs.declared.kind.Kind.TheVariants.{Delivered, Undelivered, Buffered, Sent, Refused}
@@ -23,7 +23,7 @@ use Rattle.gate_entries.specs.declared.cause.Cause.TheVariants.{Centre, Expired}
 use Rattle.gate_entries.specs.declared.call_dropped.DropCause.{DropCause}
 use Rattle.gate_entries.specs.declared.call_dropped.DropCause.TheVariants.{BadUrl, Tries}
 use Rattle.gate_entries.specs.Entry.{IsNumber, IsText, ids, numbers, messages, IsCause, cause_octets, kind_value, IsReportKind, drop_code}
-use Rattle.gate_entries.specs.EntryReading.{number_at, text_at, ids_at, numbers_of_count_at, parts_at, messages_at, arrivals_at, cause_behind, cause_at, report_kinds, report_kind_at, drop_causes, drop_cause_at}
+use Rattle.gate_entries.specs.EntryReading.{number_at, text_at, ids_at, messages_at, arrivals_at, cause_behind, cause_at, report_kinds, report_kind_at, drop_causes, drop_cause_at}
 
 -- ---- numbers and texts
 

@@ -1,5 +1,5 @@
 -- Sums that stay at the end of their type, and how many octets an entry can have.
-use Rattle.std.proofs.Common.{◌≡◌, ℕ, ◌+◌, ◌*◌, ◌-◌, ◌^◌, ◌<◌, ◌≤◌, List, ◌∷◌, [], ◌++◌, length, take, get_or, All, ap, sym, ◌∙◌, length-append, arith}
+use Rattle.std.proofs.Common.{◌≡◌, ℕ, ◌+◌, ◌*◌, ◌<◌, ◌≤◌, List, ◌∷◌, [], ◌++◌, length, take, get_or, All, ap, sym, ◌∙◌, length-append, arith}
 use Rattle.std.specs.List.{flat_map, AllByRecursion}
 use Rattle.std.proofs.lemmas.List.{take_more, flat_map_more}
 use Rattle.std.proofs.lemmas.List.Elements.{recursion_from_All}
@@ -88,18 +88,12 @@ entry_bound (entry.Rejected a) good = omega (arith, length-append a.smsc (cause_
 entry_bound (entry.Reported a) good = omega (arith, length-append (ids a.smsc a.foreign) ((kind_value a.kind ∷ []) ++ (long a.text ++ number 8 a.time)), length-append a.smsc (long a.foreign), length-append a.text (number 8 a.time), good.smsc, good.foreign, good.text)
 entry_bound (entry.Arrived a) good = omega (arith, length-append a.smsc (sms_octets a.sms), good.smsc, record_bound a.sms good.sms)
 entry_bound (entry.Answered a) good = omega (arith, length-append (flat_map (number 8) a.arrivals) (number 8 a.time ++ messages a.parts), good.few_arrivals, length-numbers a.arrivals, records_bound a.parts good.each)
-entry_bound (entry.Called a) good = omega arith
-entry_bound (entry.CallDropped a) good = omega arith
+entry_bound other good = omega arith
 
 parts_bound : (e : Recorded) → IsEntry e → length (parts_of e) ≤ most_messages
 parts_bound (entry.Accept a) good = good.few
-parts_bound (entry.Acked a) good = omega arith
-parts_bound (entry.Rejected a) good = omega arith
-parts_bound (entry.Reported a) good = omega arith
-parts_bound (entry.Arrived a) good = omega arith
 parts_bound (entry.Answered a) good = good.few
-parts_bound (entry.Called a) good = omega arith
-parts_bound (entry.CallDropped a) good = omega arith
+parts_bound other good = omega arith
 
 -- an entry's size is a number of 64 bits
 pub capped_size : (e : Recorded) → IsEntry e → capped (length (entry_octets e)) ≡ length (entry_octets e)

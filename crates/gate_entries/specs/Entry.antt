@@ -1,5 +1,5 @@
--- The entries that the gate's store records: which there are, and the octets of each.
-use Rattle.std.specs.Prelude.{ℕ, ◌+◌, ◌<◌, ◌≤◌, ◌^◌, ⊤, List, [], ◌∷◌, ◌++◌, length, All, sum_by}
+-- The entries that the gate's store records: which there are, what each is about, and the octets of each.
+use Rattle.std.specs.Prelude.{ℕ, ◌+◌, ◌<◌, ◌≤◌, ◌^◌, ⊤, List, [], ◌∷◌, ◌++◌, length, All, Option, Some, None, sum_by}
 use Rattle.std.specs.List.{flat_map}
 use Rattle.exact_octets.specs.Numbers.{number}
 use Rattle.exact_octets.specs.Spelling.{long}
@@ -22,6 +22,43 @@ use Rattle.gate_entries.specs.declared.call_dropped.DropCause.TheVariants.{BadUr
 use Rattle.gate_entries.specs.declared.call_dropped.CallDropped.{CallDropped}
 use Rattle.gate_entries.specs.declared.recorded.Recorded.{Recorded}
 use Rattle.gate_entries.specs.declared.recorded.Recorded.TheVariants as entry
+
+-- ---- what an entry is about
+
+pub record About : Type 0 where
+  -- when it happened, where it says so
+  pub time : Option ℕ
+  -- the message, the job and the arrivals that it ends
+  pub message : Option ℕ
+  pub job : Option ℕ
+  pub arrivals : List ℕ
+  -- the messages that it hands in
+  pub parts : List Sms
+  -- the SMSC id and the foreign id by which a message is known to its centre
+  pub key : Option (List ℕ × List ℕ)
+
+abbrev nothing : About
+nothing = record { time = None; message = None; job = None; arrivals = []; parts = []; key = None }
+
+abbrev pub about : Recorded → About
+about (entry.Accept accept) = record nothing { time = Some accept.time; parts = accept.parts }
+about (entry.Acked acked) = record nothing { time = Some acked.time; message = Some acked.message; key = Some (acked.smsc, acked.foreign) }
+about (entry.Rejected rejected) = record nothing { time = Some rejected.time; message = Some rejected.message }
+about (entry.Reported reported) = record nothing { time = Some reported.time; key = Some (reported.smsc, reported.foreign) }
+about (entry.Arrived arrived) = record nothing { time = Some arrived.sms.time }
+about (entry.Answered answered) = record nothing { time = Some answered.time; arrivals = answered.arrivals; parts = answered.parts }
+about (entry.Called called) = record nothing { job = Some called.job }
+about (entry.CallDropped dropped) = record nothing { job = Some dropped.job }
+
+-- the messages that an entry hands in, and the message that it ends
+abbrev pub parts_of : Recorded → List Sms
+parts_of kept = (about kept).parts
+
+abbrev pub ended_message : Recorded → Option ℕ
+ended_message kept = (about kept).message
+
+abbrev pub ended_job : Recorded → Option ℕ
+ended_job kept = (about kept).job
 
 -- ---- fields
 

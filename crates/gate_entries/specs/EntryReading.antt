@@ -21,8 +21,8 @@ use Rattle.gate_entries.specs.declared.called.Called.{Called}
 use Rattle.gate_entries.specs.declared.call_dropped.DropCause.{DropCause}
 use Rattle.gate_entries.specs.declared.call_dropped.DropCause.TheVariants.{BadUrl, Tries}
 use Rattle.gate_entries.specs.declared.call_dropped.CallDropped.{CallDropped}
-use Rattle.gate_entries.specs.declared.entry_kind.EntryKind.{EntryKind}
-use Rattle.gate_entries.specs.declared.entry_kind.EntryKind.TheVariants as kind
+use Rattle.gate_entries.specs.declared.recorded.EntryKind.{EntryKind}
+use Rattle.gate_entries.specs.declared.recorded.EntryKind.TheVariants as kind
 use Rattle.gate_entries.specs.declared.recorded.Recorded.{Recorded}
 use Rattle.gate_entries.specs.declared.recorded.Recorded.TheVariants as entry
 use Rattle.gate_entries.specs.Entry.{accept_fields, acked_fields, rejected_fields, kind_value, reported_fields, arrived_fields, answered_fields, called_fields, drop_code, call_dropped_fields}

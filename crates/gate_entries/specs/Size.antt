@@ -1,24 +1,11 @@
 -- How many octets an entry has.
-use Rattle.std.specs.Prelude.{ℕ, ◌+◌, ◌*◌, ◌-◌, ◌^◌, min, List, []}
-use Rattle.sms_record.specs.declared.sms.Sms.{Sms}
+use Rattle.std.specs.Prelude.{ℕ, ◌+◌, ◌*◌, ◌-◌, ◌^◌, min}
 use Rattle.sms_record.specs.Limits.{most_address_text, most_header, most_body, most_name, most_url}
-use Rattle.gate_entries.specs.declared.recorded.Recorded.{Recorded}
-use Rattle.gate_entries.specs.declared.recorded.Recorded.TheVariants as entry
+pub use Rattle.gate_entries.specs.Entry.{parts_of}
 
 -- a number, or the greatest of 64 bits where it is more
 abbrev pub capped : ℕ → ℕ
 capped n = min n (2 ^ 64 - 1)
-
--- the messages that an entry hands in
-abbrev pub parts_of : Recorded → List Sms
-parts_of (entry.Accept accept) = accept.parts
-parts_of (entry.Acked acked) = []
-parts_of (entry.Rejected rejected) = []
-parts_of (entry.Reported reported) = []
-parts_of (entry.Arrived arrived) = []
-parts_of (entry.Answered answered) = answered.parts
-parts_of (entry.Called called) = []
-parts_of (entry.CallDropped dropped) = []
 
 -- how many octets a record has at most: two addresses, a header, a body, three names and a URL, and 34 besides
 abbrev pub most_record : ℕ

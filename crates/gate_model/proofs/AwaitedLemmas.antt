@@ -15,7 +15,7 @@ use Rattle.gate_model.specs.declared.arrival.Arrival.{Arrival}
 use Rattle.gate_model.specs.declared.job.Job.{Job}
 use Rattle.gate_model.specs.declared.waiting.Waiting.{Waiting}
 use Rattle.gate_model.specs.Fold.{asked_by, awaited_as, awaits, closes, is_awaited, sms_of}
-use Rattle.gate_model.specs.Gate.{is_awaited_in, model_of, Becomes, IsWhole, KeepsAll}
+use Rattle.gate_model.specs.Gate.{is_awaited_in, Becomes, KeepsAll}
 use Rattle.gate_model.specs.declared.gate.Gate.{Gate}
 use Rattle.gate_model.specs.State.{State, Lists, is_key, with_list, empty}
 
@@ -127,22 +127,16 @@ if_some None P is p = absurd cc
 if_some (Some value) P is p = p
 
 -- a gate whose table took memory holds what it held
-pub keeps_reports : (old : Gate) (reports : Reports) → SameLists old.reports reports → count_of reports ≡ count_of old.reports → KeepsAll old (record old { reports = reports })
-keeps_reports old reports same counted =
-    let lists = same_lists (under reports) (under old.reports) same in
-    let state : model_of (record old { reports = reports }) ≡ model_of old = (λ i. record (model_of old) { awaited = lists i; awaited_count = counted i }) in
-    record {
-      rules = refl;
-      holds = state;
-      whole = λ whole. subst (IsWhole old.rules old.flight.items) (sym state) whole;
-    }
+pub same_state : (state : State) (old new : Reports) → SameLists old new → count_of new ≡ count_of old → record state { awaited = under new; awaited_count = count_of new } ≡ record state { awaited = under old; awaited_count = count_of old }
+same_state state old new same counted =
+    let lists = same_lists (under new) (under old) same in
+    (λ i. record state { awaited = lists i; awaited_count = counted i })
 
 -- what holds of two states one behind the other
 pub keeps_both : (a b c : Gate) → KeepsAll a b → KeepsAll b c → KeepsAll a c
 keeps_both a b c first then_ = record {
   rules = then_.rules ∙ first.rules;
   holds = then_.holds ∙ first.holds;
-  whole = λ whole. then_.whole (first.whole whole);
 }
 
 -- what follows from what is known of an answer that is Ok
@@ -156,7 +150,6 @@ becomes_both a b c first last one other =
     let before = one.places in
     let then_ = other.places in
     record {
-      whole = other.whole;
       rules = other.rules ∙ one.rules;
       holds = other.holds;
       places = omega (arith, before, then_);
@@ -164,4 +157,4 @@ becomes_both a b c first last one other =
 
 -- and holds a state that is the same
 pub becomes_same : (a b : Gate) (state other : State) → state ≡ other → Becomes a b state → Becomes a b other
-becomes_same a b state other same is = record { whole = is.whole; rules = is.rules; holds = is.holds ∙ same; places = is.places }
+becomes_same a b state other same is = record { rules = is.rules; holds = is.holds ∙ same; places = is.places }

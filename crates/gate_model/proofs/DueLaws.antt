@@ -10,10 +10,8 @@ use Rattle.sms_record.specs.declared.sms.Sms.{Sms}
 use Rattle.dlr_table.specs.Reports.{oldest}
 use Rattle.dlr_table.specs.declared.awaited.Awaited.{Awaited}
 use Rattle.gate_entries.specs.Size.{parts_of}
-use Rattle.gate_entries.specs.declared.acked.Acked.{Acked}
 use Rattle.gate_entries.specs.declared.recorded.Recorded.{Recorded}
 use Rattle.gate_entries.specs.declared.recorded.Recorded.TheVariants as entry
-use Rattle.gate_entries.specs.declared.rejected.Rejected.{Rejected}
 use Rattle.gate_entries.specs.declared.reported.Reported.{Reported}
 use Rattle.report_urls.specs.Report.{acked_report, rejected_report}
 use Rattle.report_urls.specs.ReportUrl.{report_url}
@@ -218,25 +216,18 @@ module _ (birth : ℕ) (messages : List (ℕ × Sms)) (state : State) (history :
   knows_next (entry.Reported reported) knows =
       let same = hears-same reported (oldest (state.awaited reported.smsc reported.foreign)) state in
       knows_still messages state _ (entry.Reported reported) history refl same.1 (λ number held. ap (value_under number) same.0) knows
-  knows_next (entry.Arrived arrived) knows = knows_still messages state _ (entry.Arrived arrived) history refl refl (λ number held. refl) knows
   knows_next (entry.Answered answered) knows = knows_more messages state _ answered.parts history refl refl knows.front knows.split knows.below knows.same
-  knows_next (entry.Called called) knows = knows_still messages state _ (entry.Called called) history refl refl (λ number held. refl) knows
-  knows_next (entry.CallDropped dropped) knows = knows_still messages state _ (entry.CallDropped dropped) history refl refl (λ number held. refl) knows
+  knows_next other knows = knows_still messages state _ other history refl refl (λ number held. refl) knows
 
   -- the URL that an entry calls
   url_known : (kept : Recorded) → suits state kept ≡ true → Knows messages state (kept ∷ history)
       → url_in birth state kept ≡ called_url birth (λ message. value_under message messages) state.awaited kept
-  url_known (entry.Accept accept) suited knows = refl
   url_known (entry.Acked acked) suited knows =
       ap (option_and_then (report_url birth (acked_report acked) acked.message)) (known messages state (entry.Acked acked ∷ history) acked.message knows (and_parts _ _ suited).0)
   url_known (entry.Rejected rejected) suited knows =
       ap (option_and_then (report_url birth (rejected_report rejected) rejected.message))
       (known messages state (entry.Rejected rejected ∷ history) rejected.message knows (held-may_end state rejected.message rejected.time rejected.cause (and_parts _ _ suited).0))
-  url_known (entry.Reported reported) suited knows = refl
-  url_known (entry.Arrived arrived) suited knows = refl
-  url_known (entry.Answered answered) suited knows = refl
-  url_known (entry.Called called) suited knows = refl
-  url_known (entry.CallDropped dropped) suited knows = refl
+  url_known other suited knows = refl
 
   heard : (smsc foreign : List ℕ) (reported : Reported) (found : Option Awaited) → found ≡ oldest (state.awaited reported.smsc reported.foreign)
       → (hears reported found state).awaited smsc foreign ≡ open_behind messages smsc foreign (state.awaited smsc foreign) (entry.Reported reported)
@@ -283,7 +274,6 @@ module _ (birth : ℕ) (messages : List (ℕ × Sms)) (state : State) (history :
   -- what is awaited under a key
   open_next : (smsc foreign : List ℕ) (kept : Recorded) → suits state kept ≡ true → Knows messages state (kept ∷ history)
       → (does birth state (recorded kept)).awaited smsc foreign ≡ open_behind messages smsc foreign (state.awaited smsc foreign) kept
-  open_next smsc foreign (entry.Accept accept) suited knows = refl
   open_next smsc foreign (entry.Acked acked) suited knows =
       let sms = known messages state (entry.Acked acked ∷ history) acked.message knows (and_parts _ _ suited).0 in
       elim (cases_Bool (is_key acked.smsc acked.foreign smsc foreign)) [
@@ -298,12 +288,8 @@ module _ (birth : ℕ) (messages : List (ℕ × Sms)) (state : State) (history :
             subst (λ b. cond b (state.awaited acked.smsc acked.foreign ++ asked_by acked (sms_of acked.message state)) (state.awaited smsc foreign)
             ≡ cond b (state.awaited smsc foreign ++ asked_by acked (value_under acked.message messages)) (state.awaited smsc foreign)) (sym differs) refl
       ]
-  open_next smsc foreign (entry.Rejected rejected) suited knows = refl
   open_next smsc foreign (entry.Reported reported) suited knows = heard smsc foreign reported (oldest (state.awaited reported.smsc reported.foreign)) refl
-  open_next smsc foreign (entry.Arrived arrived) suited knows = refl
-  open_next smsc foreign (entry.Answered answered) suited knows = refl
-  open_next smsc foreign (entry.Called called) suited knows = refl
-  open_next smsc foreign (entry.CallDropped dropped) suited knows = refl
+  open_next smsc foreign other suited knows = refl
 
   lists_next : (kept : Recorded) → suits state kept ≡ true → Knows messages state (kept ∷ history)
       → (does birth state (recorded kept)).awaited ≡ open_after messages state.awaited (kept ∷ [])
@@ -389,7 +375,6 @@ module _ (birth : ℕ) (state : State) (history : List Recorded) (later : List (
   jobs_next : (kept : Recorded) → IsInOrder state → suits state kept ≡ true
       → left_of history (urls_of (does birth state (recorded kept)) ++ numbered_from ((does birth state (recorded kept)).last_job + 1) later)
       ≡ left_of (kept ∷ history) (urls_of state ++ numbered_from (state.last_job + 1) (if_any (url_in birth state kept) ++ later))
-  jobs_next (entry.Accept accept) order suited = ap (left_of history) (calls_urls state.jobs state.last_job None later)
   jobs_next (entry.Acked acked) order suited = ap (left_of history) (calls_urls state.jobs state.last_job (url_in birth state (entry.Acked acked)) later)
   jobs_next (entry.Rejected rejected) order suited = ap (left_of history) (calls_urls state.jobs state.last_job (url_in birth state (entry.Rejected rejected)) later)
   jobs_next (entry.Reported reported) order suited =
@@ -399,12 +384,11 @@ module _ (birth : ℕ) (state : State) (history : List Recorded) (later : List (
       ++ numbered_from ((moves (entry.Reported reported) state).last_job + length (if_any url) + 1) later)) same.2
       ∙ ap (λ last. left_of history (map url_of (state.jobs ++ numbered_from (last + 1) (map new_job (if_any url))) ++ numbered_from (last + length (if_any url) + 1) later)) same.3
       ∙ ap (left_of history) (calls_urls state.jobs state.last_job url later)
+  jobs_next (entry.Accept accept) order suited = ap (left_of history) (calls_urls state.jobs state.last_job None later)
   jobs_next (entry.Arrived arrived) order suited = ap (left_of history) (calls_urls state.jobs state.last_job None later)
   jobs_next (entry.Answered answered) order suited = ap (left_of history) (calls_urls state.jobs state.last_job None later)
-  jobs_next (entry.Called called) order suited =
-      left_ended called.job state.last_job history state.jobs later (held_below 1 (state.last_job + 1) called.job state.jobs order.jobs suited)
-  jobs_next (entry.CallDropped dropped) order suited =
-      left_ended dropped.job state.last_job history state.jobs later (held_below 1 (state.last_job + 1) dropped.job state.jobs order.jobs suited)
+  jobs_next other order suited =
+      left_ended _ state.last_job history state.jobs later (held_below 1 (state.last_job + 1) _ state.jobs order.jobs suited)
 
 jobs_all : (birth : ℕ) (messages : List (ℕ × Sms)) (state : State) (history : List Recorded) → IsInOrder state → AreSound birth state (map recorded history)
     → Knows messages state history

@@ -171,12 +171,10 @@ moves-moves message state (entry.Acked acked) suited = moves-ends message acked.
 moves-moves message state (entry.Rejected rejected) suited =
     moves-ends message rejected.message state _ refl refl (held-may_end state rejected.message rejected.time rejected.cause (and_parts _ _ suited).0)
 moves-moves message state (entry.Reported reported) suited = held-hears message reported _ state
-moves-moves message state (entry.Arrived arrived) suited = moves-same message state _ refl refl
 moves-moves message state (entry.Answered answered) suited =
     let m = moves-accepts message (answers answered.arrivals state) answered.parts in
     record { was = m.was; gone = m.gone; stays = m.stays; absent = m.absent; grows = m.grows; given = m.given }
-moves-moves message state (entry.Called called) suited = moves-same message state _ refl refl
-moves-moves message state (entry.CallDropped dropped) suited = moves-same message state _ refl refl
+moves-moves message state other suited = moves-same message state _ refl refl
 
 moves-passes : (message : ℕ) (state : State) (brief : Passing) → Moves message false state (passes brief state)
 moves-passes message state (Up link) = moves-same message state _ refl refl
@@ -203,14 +201,9 @@ count-cons message one entries b is =
 
 -- an entry that doesn't end a message leaves its fate
 ended_by-other : (message : ℕ) (kept : Recorded) (f : Fate) → is_end_of message (recorded kept) ≡ false → ended_by message kept f ≡ f
-ended_by-other message (entry.Accept accept) f is = refl
 ended_by-other message (entry.Acked acked) f is = ap (λ b. cond b taken f) is
 ended_by-other message (entry.Rejected rejected) f is = ap (λ b. cond b (given_up rejected.cause) f) is
-ended_by-other message (entry.Reported reported) f is = refl
-ended_by-other message (entry.Arrived arrived) f is = refl
-ended_by-other message (entry.Answered answered) f is = refl
-ended_by-other message (entry.Called called) f is = refl
-ended_by-other message (entry.CallDropped dropped) f is = refl
+ended_by-other message other f is = refl
 
 fate-other : (message : ℕ) (one : Entry) (entries : List Entry) → is_end_of message one ≡ false → fate (one ∷ entries) message ≡ fate entries message
 fate-other message (recorded kept) entries is = ended_by-other message kept (fate entries message) is
@@ -218,14 +211,9 @@ fate-other message (passing brief) entries is = refl
 
 -- one that ends it leaves it not stored
 fate-ended : (message : ℕ) (one : Entry) (entries : List Entry) → is_end_of message one ≡ true → fate (one ∷ entries) message ≡ stored → ⊥
-fate-ended message (recorded (entry.Accept accept)) entries is f = cc
 fate-ended message (recorded (entry.Acked acked)) entries is f = let t : taken ≡ stored = sym (ap (λ b. cond b taken (fate entries message)) is) ∙ f in cc
 fate-ended message (recorded (entry.Rejected rejected)) entries is f = let t : given_up rejected.cause ≡ stored = sym (ap (λ b. cond b (given_up rejected.cause) (fate entries message)) is) ∙ f in cc
-fate-ended message (recorded (entry.Reported reported)) entries is f = cc
-fate-ended message (recorded (entry.Arrived arrived)) entries is f = cc
-fate-ended message (recorded (entry.Answered answered)) entries is f = cc
-fate-ended message (recorded (entry.Called called)) entries is f = cc
-fate-ended message (recorded (entry.CallDropped dropped)) entries is f = cc
+fate-ended message (recorded other) entries is f = cc
 fate-ended message (passing brief) entries is f = cc
 
 either : (b : Bool) → (b ≡ true) ⊎ (b ≡ false)
@@ -330,10 +318,8 @@ module _ (state : State) (counted : IsCounted state) where
             | true ↦ counted
             | false ↦ counted
           ]
-  counted-moves (entry.Arrived arrived) order suited = counted
   counted-moves (entry.Answered answered) order suited = counted-accepts answered.parts
-  counted-moves (entry.Called called) order suited = counted
-  counted-moves (entry.CallDropped dropped) order suited = counted
+  counted-moves other order suited = counted
 
   pub counted-passes : (brief : Passing) → IsCounted (passes brief state)
   counted-passes (Up link) = counted

@@ -53,8 +53,7 @@ IsInOrder-moves state (entry.Rejected rejected) h = record { waiting = Rise-with
 IsInOrder-moves state (entry.Reported reported) h = IsInOrder-hears reported _ state h
 IsInOrder-moves state (entry.Arrived arrived) h = record { waiting = h.waiting; arrivals = Rise-one_more state.last_arrival state.arrivals _ h.arrivals; jobs = h.jobs }
 IsInOrder-moves state (entry.Answered answered) h = IsInOrder-accepts answered.parts _ (record { waiting = h.waiting; arrivals = Rise-fold_without _ _ state.arrivals answered.arrivals h.arrivals; jobs = h.jobs })
-IsInOrder-moves state (entry.Called called) h = record { waiting = h.waiting; arrivals = h.arrivals; jobs = Rise-without _ _ called.job state.jobs h.jobs }
-IsInOrder-moves state (entry.CallDropped dropped) h = record { waiting = h.waiting; arrivals = h.arrivals; jobs = Rise-without _ _ dropped.job state.jobs h.jobs }
+IsInOrder-moves state other h = record { waiting = h.waiting; arrivals = h.arrivals; jobs = Rise-without _ _ _ state.jobs h.jobs }
 
 pub IsInOrder-calls : (url : Option (List ℕ)) (state : State) → IsInOrder state → IsInOrder (calls url state)
 IsInOrder-calls url state h = record {

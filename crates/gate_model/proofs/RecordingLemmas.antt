@@ -17,9 +17,6 @@ record IsAlike (old new : State) : Type 0 where
   pub entries : new.entries ≡ old.entries
 
 alike-moves : (kept : Recorded) (state : State) → IsAlike state (moves kept state)
-alike-moves (entry.Accept accept) state = record { last_job = refl; entries = refl }
-alike-moves (entry.Acked acked) state = record { last_job = refl; entries = refl }
-alike-moves (entry.Rejected rejected) state = record { last_job = refl; entries = refl }
 alike-moves (entry.Reported reported) state = heard (oldest (state.awaited reported.smsc reported.foreign))
   where
     heard : (found : Option Awaited) → IsAlike state (hears reported found state)
@@ -29,10 +26,7 @@ alike-moves (entry.Reported reported) state = heard (oldest (state.awaited repor
           | true ↦ record { last_job = refl; entries = refl }
           | false ↦ record { last_job = refl; entries = refl }
         ]
-alike-moves (entry.Arrived arrived) state = record { last_job = refl; entries = refl }
-alike-moves (entry.Answered answered) state = record { last_job = refl; entries = refl }
-alike-moves (entry.Called called) state = record { last_job = refl; entries = refl }
-alike-moves (entry.CallDropped dropped) state = record { last_job = refl; entries = refl }
+alike-moves other state = record { last_job = refl; entries = refl }
 
 -- so behind an entry that is counted, fewer jobs were made than entries were recorded
 pub fewer_jobs : (kept : Recorded) (state mid : State) → mid ≡ counts_entry (moves kept state) → state.last_job ≤ state.entries → mid.last_job < mid.entries

@@ -24,10 +24,6 @@ few_entries state none = ltb-true state.entries most_entries (by_test (nat_lt st
 -- fewer were recorded than ever may be
 pub few_where_unrefused : (rules : Rules) (state : State) (kept : Recorded) → refusal rules state kept ≡ None → state.entries < most_entries
 few_where_unrefused rules state (entry.Accept accept) none = few_entries state (second_none (past_queue rules state accept.parts) _ (second_none (without_route rules accept.parts) _ none))
-few_where_unrefused rules state (entry.Acked acked) none = few_entries state none
-few_where_unrefused rules state (entry.Rejected rejected) none = few_entries state none
-few_where_unrefused rules state (entry.Reported reported) none = few_entries state none
 few_where_unrefused rules state (entry.Arrived arrived) none = few_entries state (second_none (past_arrivals rules state) _ none)
 few_where_unrefused rules state (entry.Answered answered) none = few_entries state (second_none (past_queue rules state answered.parts) _ (second_none (without_route rules answered.parts) _ none))
-few_where_unrefused rules state (entry.Called called) none = few_entries state none
-few_where_unrefused rules state (entry.CallDropped dropped) none = few_entries state none
+few_where_unrefused rules state other none = few_entries state none

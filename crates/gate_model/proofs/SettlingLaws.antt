@@ -87,10 +87,7 @@ settle-moves state (entry.Arrived arrived) =
 settle-moves state (entry.Answered answered) =
     settle-accepts answered.parts (answers answered.arrivals state)
     ∙ ap (λ ps. accepts answered.parts (record (settle state) { arrivals = ps })) (with_changes-fold free_arrival state.arrivals answered.arrivals)
-settle-moves state (entry.Called called) =
-    ap (λ ps. record (settle (moves (entry.Called called) state)) { jobs = ps }) (with_changes-without free_job called.job state.jobs)
-settle-moves state (entry.CallDropped dropped) =
-    ap (λ ps. record (settle (moves (entry.CallDropped dropped) state)) { jobs = ps }) (with_changes-without free_job dropped.job state.jobs)
+settle-moves state other = ap (λ ps. record (settle (moves other state)) { jobs = ps }) (with_changes-without free_job _ state.jobs)
 
 -- what is kept does to a settled state what it does, settled
 pub settle-keeps : (birth : ℕ) (state : State) (kept : Recorded) → settle (keeps birth kept state) ≡ keeps birth kept (settle state)

@@ -7,13 +7,14 @@ use Rattle.std.specs.Option.{option_map_or}
 use Rattle.route_rules.specs.declared.rules.Rules.{Rules}
 use Rattle.gate_entries.specs.declared.cause.Cause.{Cause}
 use Rattle.gate_entries.specs.declared.cause.Cause.TheVariants.{Centre, Expired}
+use Rattle.gate_entries.specs.Entry.{ended_job}
 use Rattle.gate_entries.specs.declared.recorded.Recorded.{Recorded}
 use Rattle.gate_entries.specs.declared.recorded.Recorded.TheVariants as entry
 use Rattle.gate_model.specs.declared.waiting.Waiting.{Waiting}
 use Rattle.gate_model.specs.Numbers.{is_held, value_under, with_changes}
 use Rattle.gate_model.specs.State.{State}
 use Rattle.gate_model.specs.Fold.{Entry, recorded, passing, does, counts_entry}
-use Rattle.gate_model.specs.Lawful.{IsLawful, IsSound, IsTimed, suits, may_end, has_expired, are_distinct, is_time}
+use Rattle.gate_model.specs.Lawful.{IsLawful, IsSound, IsTimed, suits, may_end, has_expired, are_distinct, is_time, holds_job}
 use Rattle.gate_model.specs.Fates.{AreSound}
 use Rattle.gate_model.specs.Settling.{settle, free_waiting, free_arrival, free_job, kept}
 use Rattle.gate_model.proofs.SettlingLaws.{settle-keeps, settle-passes, value_under-with_changes}
@@ -43,6 +44,10 @@ all_held-settle : (state : State) (numbers : List ℕ) → list_all (λ arrival.
 all_held-settle state [] = refl
 all_held-settle state (number ∷ numbers) = rw (held-with_changes free_arrival number state.arrivals, all_held-settle state numbers) refl
 
+held_job-settle : (state : State) (job : Option ℕ) → holds_job (settle state) job ≡ holds_job state job
+held_job-settle state None = refl
+held_job-settle state (Some job) = held-with_changes free_job job state.jobs
+
 -- what suits a state suits what is left of it
 pub suits-settle : (state : State) (one : Recorded) → suits (settle state) one ≡ suits state one
 suits-settle state (entry.Accept accept) = refl
@@ -51,8 +56,7 @@ suits-settle state (entry.Rejected rejected) = ap (λ b. b && is_time rejected.t
 suits-settle state (entry.Reported reported) = refl
 suits-settle state (entry.Arrived arrived) = refl
 suits-settle state (entry.Answered answered) = ap (λ b. (b && are_distinct answered.arrivals) && is_time answered.time) (all_held-settle state answered.arrivals)
-suits-settle state (entry.Called called) = held-with_changes free_job called.job state.jobs
-suits-settle state (entry.CallDropped dropped) = held-with_changes free_job dropped.job state.jobs
+suits-settle state other = held_job-settle state (ended_job other)
 
 pub sound-settle : (state : State) (one : Recorded) → IsSound state one → IsSound (settle state) one
 sound-settle state one sound = (sound.0, subst IsTrue (sym (suits-settle state one)) sound.1)
@@ -73,11 +77,7 @@ are_sound-settle birth state (passing brief ∷ entries) sound =
 
 -- the time of an entry that suits a state is a reading of the clock
 pub timed_where_suits : (state : State) (one : Recorded) → suits state one ≡ true → IsTimed one
-timed_where_suits state (entry.Accept accept) suited = refl
 timed_where_suits state (entry.Acked acked) suited = (and_parts _ _ suited).1
 timed_where_suits state (entry.Rejected rejected) suited = (and_parts _ _ suited).1
 timed_where_suits state (entry.Reported reported) suited = suited
-timed_where_suits state (entry.Arrived arrived) suited = refl
-timed_where_suits state (entry.Answered answered) suited = refl
-timed_where_suits state (entry.Called called) suited = refl
-timed_where_suits state (entry.CallDropped dropped) suited = refl
+timed_where_suits state other suited = refl

@@ -12,14 +12,15 @@ use Rattle.gate_entries.specs.declared.recorded.Recorded.{Recorded}
 use Rattle.gate_entries.specs.declared.recorded.Recorded.TheVariants as entry
 use Rattle.gate_entries.specs.Entry.{IsEntry, IsText}
 use Rattle.gate_entries.proofs.Sizes.{entry_bound}
-use Rattle.gate_entries.specs.declared.passing.Passing.TheVariants.{Took, Returned, TookJob}
+use Rattle.gate_entries.specs.declared.passing.Passing.TheVariants.{Took, Returned, TookJob, TookArrival}
+use Rattle.gate_model.specs.declared.arrival.Arrival.{Arrival}
 use Rattle.gate_model.specs.declared.job.Job.{Job}
 use Rattle.gate_model.specs.declared.waiting.Waiting.{Waiting}
 use Rattle.gate_model.specs.Fold.{recorded, sms_of}
-use Rattle.gate_model.specs.Gate.{IsWhole, HaveIds, id_of, url_of, is_leased}
+use Rattle.gate_model.specs.Gate.{IsWhole, HaveIds, id_of, url_of, arrival_of, is_leased}
 use Rattle.gate_model.specs.Lawful.{IsLawful, MayPass, MayTake, is_expired, is_time}
 use Rattle.gate_model.specs.Numbers.{Rise, is_held, value_under}
-use Rattle.gate_model.specs.Routing.{next, next_job, free_jobs, may_take, link_for}
+use Rattle.gate_model.specs.Routing.{next, next_job, next_arrival, free_jobs, may_take, link_for}
 use Rattle.gate_model.specs.State.{State, IsInOrder, is_link}
 use Rattle.gate_model.proofs.FatesLaws.{held_below}
 use Rattle.gate_model.proofs.NextLemmas.{first_pair}
@@ -186,3 +187,20 @@ pub next_job_is_held : (state : State) (job : ℕ) → IsInOrder state → next_
 next_job_is_held state job order is =
     let free = free_job_found state job order is in
     subst (λ j. IsSome (option_map (λ job. job.url) j)) (sym free.there) refl
+
+-- ---- arrivals
+
+free_arrival_found : (state : State) (arrival : ℕ) → IsInOrder state → next_arrival state ≡ Some arrival → Found (λ (a : Arrival). not a.leased) arrival state.arrivals
+free_arrival_found state arrival order is = first_found (λ (a : Arrival). not a.leased) 1 (state.last_arrival + 1) arrival state.arrivals order.arrivals is
+
+-- the arrival that is dealt with next may be taken
+pub next_arrival_may_be_taken : (rules : Rules) (state : State) (arrival : ℕ) → IsInOrder state → next_arrival state ≡ Some arrival → MayPass rules state (TookArrival arrival)
+next_arrival_may_be_taken rules state arrival order is =
+    let free = free_arrival_found state arrival order is in
+    some_and (value_under arrival state.arrivals) free.value (λ a. a.leased ≡ false) free.there (not_false free.value.leased free.passes)
+
+-- it is held
+pub next_arrival_is_held : (state : State) (arrival : ℕ) → IsInOrder state → next_arrival state ≡ Some arrival → IsSome (arrival_of arrival state)
+next_arrival_is_held state arrival order is =
+    let free = free_arrival_found state arrival order is in
+    subst (λ a. IsSome (option_map (λ arrival. arrival.sms) a)) (sym free.there) refl

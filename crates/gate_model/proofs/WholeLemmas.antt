@@ -12,24 +12,21 @@ use Rattle.gate_model.specs.Numbers.{Rise, value_under}
 use Rattle.gate_model.specs.declared.job.Job.{Job}
 use Rattle.gate_model.specs.State.{State, Lists, flight_of, flights, empty}
 use Rattle.gate_model.specs.Fold.{accepts, answers, arrives, calls, new_job, if_any, ends, leases, leases_arrival, counts_entry}
-use Rattle.gate_model.specs.Gate.{IsWhole, IsBounded, Becomes, model_of, rules_of}
+use Rattle.gate_model.specs.Gate.{IsGate, IsWhole, IsBounded}
 use Rattle.gate_model.specs.Lawful.{most_entries}
 use Rattle.gate_model.specs.Links.{raised, lowered}
 use Rattle.gate_model.proofs.FlightLemmas.{flights-ends, flights-returned, flights-taken, flights-accepts, flights-none, flight_of-le}
 use Rattle.gate_model.proofs.NumberLemmas.{Rise-without, Rise-with_change}
 use Rattle.gate_model.proofs.OrderLemmas.{IsInOrder-accepts, IsInOrder-calls, IsInOrder-empty, Rise-one_more, Rise-fold_without}
 
--- a gate that holds a whole state under the rules of another has become that
-pub becomes : (old new : Gate) (flight : List ℕ) (state : State) → rules_of new ≡ rules_of old → new.flight.items ≡ flight → old.jobs.room ≤ new.jobs.room
-    → model_of new ≡ state → IsWhole (rules_of old) flight state → Becomes old new state
-becomes old new flight state rules flights places holds whole = record {
-  whole =
-      subst (λ r. IsWhole r new.flight.items (model_of new)) (sym rules)
-      (subst (λ f. IsWhole (rules_of old) f (model_of new)) (sym flights) (subst (λ s. IsWhole (rules_of old) flight s) (sym holds) whole));
-  rules = rules;
-  holds = holds;
-  places = places;
-}
+-- what always holds of a gate, read from its type
+pub is_gate : (gate : Gate) → IsGate gate
+is_gate gate = gate.whole
+
+-- what is whole stays so under other names
+pub whole_as : (rules : Rules) (flight other_flight : List ℕ) (state other : State) → other_flight ≡ flight → other ≡ state → IsWhole rules flight state → IsWhole rules other_flight other
+whole_as rules flight other_flight state other flights holds whole =
+    subst (λ f. IsWhole rules f other) (sym flights) (subst (λ s. IsWhole rules flight s) (sym holds) whole)
 
 -- where no URL is called nothing changes
 pub calls_none : (state : State) → state ≡ calls None state

@@ -1,9 +1,10 @@
 -- What becomes of reports, by a history alone: which reports are open, which URLs are due, and which of them are still to be called.
 use Rattle.std.specs.Prelude.{◌≡◌, ℕ, ◌+◌, Bool, false, ◌&&◌, not, ◌==◌, List, [], ◌∷◌, ◌++◌, map, filter, drop, fold, if◌then◌else◌}
 use Rattle.std.specs.List.{flat_map, list_any}
+use Rattle.std.specs.Option.{option_map_or}
 use Rattle.sms_record.specs.declared.sms.Sms.{Sms}
 use Rattle.dlr_table.specs.declared.awaited.Awaited.{Awaited}
-use Rattle.gate_entries.specs.Size.{parts_of}
+use Rattle.gate_entries.specs.Entry.{parts_of, ended_job}
 use Rattle.gate_entries.specs.declared.recorded.Recorded.{Recorded}
 use Rattle.gate_entries.specs.declared.recorded.Recorded.TheVariants as entry
 use Rattle.gate_model.specs.Fold.{is_last, asked_by, called_url, if_any}
@@ -50,9 +51,7 @@ due birth start history = due_from birth (messages_of start history) start.await
 
 -- an entry says of a job that its URL was called, or that it won't be
 abbrev pub is_end_of_job : (job : ℕ) → Recorded → Bool
-is_end_of_job job (entry.Called called) = job == called.job
-is_end_of_job job (entry.CallDropped dropped) = job == dropped.job
-is_end_of_job job other = false
+is_end_of_job job kept = option_map_or (λ ended. job == ended) (ended_job kept) false
 
 -- the URLs of a state's jobs, by their numbers
 abbrev pub urls_of : State → List (ℕ × List ℕ)

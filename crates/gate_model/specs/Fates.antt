@@ -1,6 +1,8 @@
 -- What becomes of messages.
 use Rattle.std.specs.Prelude.{◌≡◌, ◌↔◌, ◌⊎◌, ℕ, ◌+◌, ◌<◌, ◌≤◌, ◌==◌, Bool, false, List, [], ◌∷◌, count_by, ⊤, if◌then◌else◌}
+use Rattle.std.specs.Option.{option_map_or}
 use Rattle.route_rules.specs.declared.rules.Rules.{Rules}
+use Rattle.gate_entries.specs.Entry.{ended_message}
 use Rattle.gate_entries.specs.declared.cause.Cause.{Cause}
 use Rattle.gate_entries.specs.declared.recorded.Recorded.{Recorded}
 use Rattle.gate_entries.specs.declared.recorded.Recorded.TheVariants as entry
@@ -33,14 +35,9 @@ AreSound birth state (entry ∷ entries) = IsSoundIn state entry × AreSound bir
 
 -- what becomes of a message by an entry that ends one, and else
 abbrev pub ended_by : (message : ℕ) → Recorded → Fate → Fate
-ended_by message (entry.Accept accept) fate = fate
 ended_by message (entry.Acked acked) fate = if acked.message == message then taken else fate
 ended_by message (entry.Rejected rejected) fate = if rejected.message == message then given_up rejected.cause else fate
-ended_by message (entry.Reported reported) fate = fate
-ended_by message (entry.Arrived arrived) fate = fate
-ended_by message (entry.Answered answered) fate = fate
-ended_by message (entry.Called called) fate = fate
-ended_by message (entry.CallDropped dropped) fate = fate
+ended_by message other fate = fate
 
 -- what becomes of a message by entries
 abbrev pub fate : List Entry → (message : ℕ) → Fate
@@ -50,14 +47,7 @@ fate (passing brief ∷ entries) message = fate entries message
 
 -- an entry ends this message
 abbrev pub is_end_of : (message : ℕ) → Entry → Bool
-is_end_of message (recorded (entry.Accept accept)) = false
-is_end_of message (recorded (entry.Acked acked)) = acked.message == message
-is_end_of message (recorded (entry.Rejected rejected)) = rejected.message == message
-is_end_of message (recorded (entry.Reported reported)) = false
-is_end_of message (recorded (entry.Arrived arrived)) = false
-is_end_of message (recorded (entry.Answered answered)) = false
-is_end_of message (recorded (entry.Called called)) = false
-is_end_of message (recorded (entry.CallDropped dropped)) = false
+is_end_of message (recorded kept) = option_map_or (λ ended. ended == message) (ended_message kept) false
 is_end_of message (passing brief) = false
 
 -- each message that was accepted was taken, given up, or waits

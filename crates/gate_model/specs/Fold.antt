@@ -180,15 +180,11 @@ moves (entry.CallDropped dropped) state = record (ends_job dropped.job state) { 
 -- The URL that an entry calls, in the store of this birth. It is that of the message of which the entry speaks: one that its centre took or
 -- that was given up is the message of its number, and a report belongs to the oldest message under its key.
 abbrev pub called_url : (birth : ℕ) → (message : ℕ → Option Sms) → Lists → Recorded → Option (List ℕ)
-called_url birth message lists (entry.Accept accept) = None
 called_url birth message lists (entry.Acked acked) = option_and_then (report_url birth (acked_report acked) acked.message) (message acked.message)
 called_url birth message lists (entry.Rejected rejected) = option_and_then (report_url birth (rejected_report rejected) rejected.message) (message rejected.message)
 called_url birth message lists (entry.Reported reported) =
     option_and_then (λ awaited. report_url birth (reported_report reported) awaited.message awaited.sms) (oldest (lists reported.smsc reported.foreign))
-called_url birth message lists (entry.Arrived arrived) = None
-called_url birth message lists (entry.Answered answered) = None
-called_url birth message lists (entry.Called called) = None
-called_url birth message lists (entry.CallDropped dropped) = None
+called_url birth message lists other = None
 
 -- the URL that an entry calls in a state
 abbrev pub url_in : (birth : ℕ) → State → Recorded → Option (List ℕ)

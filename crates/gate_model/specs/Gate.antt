@@ -1,76 +1,35 @@
 -- A gate: the state that it holds, and what keeps it whole.
-use Rattle.std.specs.Prelude.{◌≡◌, ℕ, ◌*◌, ◌<◌, ◌≤◌, ◌^◌, List, [], length, slice_get, All, Option, option_map, ⊤}
+use Rattle.std.specs.Prelude.{◌≡◌, ℕ, ◌<◌, ◌≤◌, List, [], length, slice_get, All, Option, option_map, ⊤}
 use Rattle.std.specs.Option.{option_and_then, option_map_or}
 use Rattle.std.specs.Prelude.{Bool, false, is_some, IsTrue, IfSome}
 use Rattle.sms_record.specs.declared.sms.Sms.{Sms}
 use Rattle.route_rules.specs.declared.rules.Rules.{Rules}
-use Rattle.dlr_table.specs.Reports.{under, count_of, spare}
+use Rattle.dlr_table.specs.Reports.{spare}
 use Rattle.gate_entries.specs.declared.recorded.Recorded.{Recorded}
 use Rattle.gate_entries.specs.declared.recorded.Recorded.TheVariants as entry
 use Rattle.gate_entries.specs.Entry.{IsText}
 use Rattle.gate_entries.specs.declared.acked.Acked.{Acked}
-use Rattle.gate_entries.specs.Limits.{most_messages}
 use Rattle.gate_model.specs.declared.gate.Gate.{Gate}
 use Rattle.gate_model.specs.declared.ready.Ready.{Ready}
 use Rattle.gate_model.specs.declared.waiting.Waiting.{Waiting}
 use Rattle.gate_model.specs.Fold.{is_awaited, sms_of, url_in}
 use Rattle.gate_model.specs.Numbers.{value_under}
-use Rattle.gate_model.specs.State.{State, IsInOrder, flights}
-use Rattle.gate_model.specs.Lawful.{most_entries}
+use Rattle.gate_model.specs.State.{State}
+pub use Rattle.gate_model.specs.Whole.{state_of, IsBounded, IsWhole}
 
 -- the state that a gate holds
 abbrev pub model_of : Gate → State
-model_of gate = record {
-  waiting = gate.waiting.pairs;
-  arrivals = gate.arrivals.pairs;
-  jobs = gate.jobs.pairs;
-  awaited = under gate.reports;
-  awaited_count = count_of gate.reports;
-  up = gate.up.items;
-  accepted = gate.counts.accepted;
-  acked = gate.counts.acked;
-  rejected = gate.counts.rejected;
-  unmatched = gate.counts.unmatched;
-  called = gate.counts.called;
-  dropped = gate.counts.dropped;
-  arrived = gate.counts.arrived;
-  entries = gate.counts.entries;
-  last_message = gate.counts.last_message;
-  last_job = gate.counts.last_job;
-  last_arrival = gate.counts.last_arrival;
-}
+model_of gate = state_of gate.waiting.pairs gate.arrivals.pairs gate.jobs.pairs gate.reports gate.up.items gate.counts
 
 abbrev pub rules_of : Gate → Rules
 rules_of gate = gate.rules
 
--- Counts and numbers are bounded by the entries, and these by the most that are ever recorded.
-pub record IsBounded (state : State) : Type 0 where
-  pub entries : state.entries ≤ most_entries
-  pub accepted : state.accepted ≤ most_messages * state.entries
-  pub last_message : state.last_message ≤ most_messages * state.entries
-  pub acked : state.acked ≤ state.entries
-  pub rejected : state.rejected ≤ state.entries
-  pub unmatched : state.unmatched ≤ state.entries
-  pub called : state.called ≤ state.entries
-  pub dropped : state.dropped ≤ state.entries
-  pub last_job : state.last_job ≤ state.entries
-  pub arrived : state.arrived ≤ state.entries
-  pub last_arrival : state.last_arrival ≤ state.entries
-
--- What keeps a state whole, with the rules and with how many messages each link has in flight.
-pub record IsWhole (rules : Rules) (flight : List ℕ) (state : State) : Type 0 where
-  pub few_links : length rules.links < 2 ^ 32
-  pub ups : length state.up ≡ length rules.links
-  pub flights : flight ≡ flights state
-  pub order : IsInOrder state
-  pub bounded : IsBounded state
-
+-- what always holds of a gate (it stands on its type)
 abbrev pub IsGate : Gate → Type 0
 IsGate gate = IsWhole gate.rules gate.flight.items (model_of gate)
 
--- a gate is still one, under the same rules, and holds this state now; what was a place for a job still is one
+-- a gate has the same rules, and holds this state now; what was a place for a job still is one
 pub record Becomes (old new : Gate) (state : State) : Type 0 where
-  pub whole : IsGate new
   pub rules : rules_of new ≡ rules_of old
   pub holds : model_of new ≡ state
   pub places : old.jobs.room ≤ new.jobs.room
@@ -79,7 +38,6 @@ pub record Becomes (old new : Gate) (state : State) : Type 0 where
 pub record KeepsAll (old new : Gate) : Type 0 where
   pub rules : rules_of new ≡ rules_of old
   pub holds : model_of new ≡ model_of old
-  pub whole : IsGate old → IsGate new
 
 -- the lease of the message under a number, where there is one
 abbrev pub lease_under : (message : ℕ) → List (ℕ × Waiting) → Option ℕ
@@ -93,12 +51,9 @@ is_awaited_in acked state = option_map_or (is_awaited acked.foreign) (sms_of ack
 abbrev pub HasRoomFor : Gate → Recorded → Type 0
 HasRoomFor gate (entry.Accept accept) = length accept.parts ≤ gate.waiting.room
 HasRoomFor gate (entry.Acked acked) = IsTrue (is_awaited_in acked (model_of gate)) → 0 < spare gate.reports acked.smsc acked.foreign
-HasRoomFor gate (entry.Rejected rejected) = ⊤
-HasRoomFor gate (entry.Reported reported) = ⊤
 HasRoomFor gate (entry.Arrived arrived) = 1 ≤ gate.arrivals.room
 HasRoomFor gate (entry.Answered answered) = length answered.parts ≤ gate.waiting.room
-HasRoomFor gate (entry.Called called) = ⊤
-HasRoomFor gate (entry.CallDropped dropped) = ⊤
+HasRoomFor gate other = ⊤
 
 -- the entry that was prepared
 abbrev pub entry_of : Ready → Recorded

@@ -1,5 +1,5 @@
 -- Which entries may happen to a state, and which of them are refused.
-use Rattle.std.specs.Prelude.{◌≡◌, ◌≢◌, ℕ, Bool, ◌+◌, ◌*◌, ◌≤◌, ◌^◌, nat_lt, nat_le, ◌&&◌, not, ◌==◌, List, [], ◌∷◌, length, All, Option, Some, None, IsSomeAnd, IsTrue, slice_get, position, if◌then◌else◌, true, false, ⊤}
+use Rattle.std.specs.Prelude.{◌≡◌, ◌≢◌, ℕ, Bool, ◌+◌, ◌*◌, ◌≤◌, ◌^◌, nat_lt, nat_le, ◌&&◌, not, ◌==◌, List, [], ◌∷◌, length, All, Option, Some, None, IsSomeAnd, IsTrue, bytes_eq, slice_get, position, if◌then◌else◌, true, false, ⊤}
 use Rattle.std.specs.List.{list_any, list_all}
 use Rattle.std.specs.Option.{option_or, option_map, option_map_or}
 use Rattle.sms_record.specs.declared.sms.Sms.{Sms}
@@ -7,7 +7,7 @@ use Rattle.route_rules.specs.declared.rules.Rules.{Rules}
 use Rattle.route_rules.specs.Routes.{routable}
 use Rattle.gate_entries.specs.declared.cause.Cause.{Cause}
 use Rattle.gate_entries.specs.declared.cause.Cause.TheVariants.{Centre, Expired}
-use Rattle.gate_entries.specs.Entry.{IsEntry, entry_octets}
+use Rattle.gate_entries.specs.Entry.{IsEntry, entry_octets, ended_job}
 use Rattle.gate_entries.specs.declared.call_dropped.DropCause.{DropCause}
 use Rattle.gate_entries.specs.declared.call_dropped.DropCause.TheVariants.{BadUrl, Tries}
 use Rattle.gate_entries.specs.declared.recorded.Recorded.{Recorded}
@@ -51,16 +51,20 @@ may_end state message time Expired = option_map_or (has_expired time) (value_und
 abbrev pub is_expired : (message time : ℕ) → State → Bool
 is_expired message time state = may_end state message time Expired
 
--- an entry suits a state: it names what the state holds, at a reading of the clock
+-- there is a job, and it is held
+abbrev pub holds_job : State → (job : Option ℕ) → Bool
+holds_job state None = false
+holds_job state (Some job) = is_held job state.jobs
+
+-- an entry suits a state: it names what the state holds, at a reading of the clock; and a message that came has the id of its link
 abbrev pub suits : State → Recorded → Bool
 suits state (entry.Accept accept) = is_time accept.time
 suits state (entry.Acked acked) = is_held acked.message state.waiting && is_time acked.time
 suits state (entry.Rejected rejected) = may_end state rejected.message rejected.time rejected.cause && is_time rejected.time
 suits state (entry.Reported reported) = is_time reported.time
-suits state (entry.Arrived arrived) = true
+suits state (entry.Arrived arrived) = bytes_eq arrived.sms.smsc arrived.smsc
 suits state (entry.Answered answered) = are_arrivals state answered.arrivals && is_time answered.time
-suits state (entry.Called called) = is_held called.job state.jobs
-suits state (entry.CallDropped dropped) = is_held dropped.job state.jobs
+suits state other = holds_job state (ended_job other)
 
 -- the time of an entry that says what became of a message is a reading of the clock
 abbrev pub is_timed : Recorded → Bool
@@ -105,14 +109,13 @@ HoldsMessage state message Expired = IsFree state message
 
 -- what a recorded entry needs besides being sound: whoever ends a thing has taken it
 abbrev pub HoldsLease : State → Recorded → Type 0
-HoldsLease state (entry.Accept accept) = ⊤
 HoldsLease state (entry.Acked acked) = IsLeased state acked.message
 HoldsLease state (entry.Rejected rejected) = HoldsMessage state rejected.message rejected.cause
-HoldsLease state (entry.Reported reported) = ⊤
-HoldsLease state (entry.Arrived arrived) = ⊤
 HoldsLease state (entry.Answered answered) = All (IsArrival true state) answered.arrivals
 HoldsLease state (entry.Called called) = IsJob true state called.job
-HoldsLease state (entry.CallDropped dropped) = IsSomeAnd (value_under dropped.job state.jobs) (λ job. (job.leased ≡ true) × IsTriedOut dropped.cause job)
+HoldsLease state (entry.CallDropped dropped) =
+    IsSomeAnd (value_under dropped.job state.jobs) (λ job. (job.leased ≡ true) × IsTriedOut dropped.cause job)
+HoldsLease state other = ⊤
 
 -- a link may take the message now
 abbrev pub MayTake : Rules → State → (link now : ℕ) → Waiting → Type 0
@@ -170,10 +173,6 @@ refused_parts rules state parts = option_or (without_route rules parts) (option_
 -- why a recorded entry is refused, if it is
 abbrev pub refusal : Rules → State → Recorded → Option Refusal
 refusal rules state (entry.Accept accept) = refused_parts rules state accept.parts
-refusal rules state (entry.Acked acked) = past_entries state
-refusal rules state (entry.Rejected rejected) = past_entries state
-refusal rules state (entry.Reported reported) = past_entries state
-refusal rules state (entry.Arrived arrived) = option_or (past_arrivals rules state) (past_entries state)
 refusal rules state (entry.Answered answered) = refused_parts rules state answered.parts
-refusal rules state (entry.Called called) = past_entries state
-refusal rules state (entry.CallDropped dropped) = past_entries state
+refusal rules state (entry.Arrived arrived) = option_or (past_arrivals rules state) (past_entries state)
+refusal rules state other = past_entries state

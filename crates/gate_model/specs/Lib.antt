@@ -13,3 +13,4 @@ pub mod Loading
 pub mod Numbers
 pub mod Settling
 pub mod State
+pub mod Whole

@@ -22,10 +22,6 @@ accepted rules state parts = Accepted (state.last_message + 1) (length parts) (i
 -- the reply to an entry that is recorded in a state
 abbrev pub reply_to : Rules → State → Recorded → Reply
 reply_to rules state (entry.Accept accept) = accepted rules state accept.parts
-reply_to rules state (entry.Acked acked) = Noted true
-reply_to rules state (entry.Rejected rejected) = Noted true
-reply_to rules state (entry.Reported reported) = Noted (is_some (oldest (state.awaited reported.smsc reported.foreign)))
-reply_to rules state (entry.Arrived arrived) = Noted true
 reply_to rules state (entry.Answered answered) = accepted rules state answered.parts
-reply_to rules state (entry.Called called) = Noted true
-reply_to rules state (entry.CallDropped dropped) = Noted true
+reply_to rules state (entry.Reported reported) = Noted (is_some (oldest (state.awaited reported.smsc reported.foreign)))
+reply_to rules state other = Noted true

@@ -1,9 +1,7 @@
 //! The gate: what a store of messages holds, in memory.
 
 ghost use Rattle.std.specs.Prelude.{◌≡◌, ◌<◌, ◌^◌, false, length, replicate, IfOk, IfErr, option_copied};
-ghost use Rattle.gate_model.specs.Fold.{sms_of};
-ghost use Rattle.gate_model.specs.Gate.{model_of, rules_of, Becomes, IsGate, is_leased, arrival_of, id_of, url_of, returns_of};
-ghost use Rattle.gate_model.specs.State.{empty, totals_of};
+ghost use Rattle.gate_model.specs.Whole.{state_of, IsWhole, IsWhole-prop};
 
 mod checking;
 mod jobs;
@@ -41,14 +39,18 @@ pub struct Gate {
     jobs: Table<Job>,
     reports: Reports,
     counts: Counts,
+    ghost whole: { IsWhole rules flight.items (state_of waiting.pairs arrivals.pairs jobs.pairs reports up.items counts) } by { IsWhole-prop rules flight.items (state_of waiting.pairs arrivals.pairs jobs.pairs reports up.items counts) },
 }
 
 impl Gate {
+    ghost use Rattle.gate_model.specs.Fold.{sms_of};
+    ghost use Rattle.gate_model.specs.Gate.{model_of, rules_of, is_leased, arrival_of, id_of, url_of, returns_of};
+    ghost use Rattle.gate_model.specs.State.{empty, totals_of};
+
     /// The gate of a store in which nothing has happened, all links down. The rules stay for its life; after `Memory` they are
     /// given back.
     pub fn new(alloc: Global, rules: Rules) -> Result<Gate, (Rules, Memory)>
         requires { length rules.links < 2 ^ 32 }
-        ensures ok { IfOk result (λ gate. IsGate gate) }
         ensures rules { IfOk result (λ gate. rules_of gate ≡ rules) }
         ensures state { IfOk result (λ gate. model_of gate ≡ empty (length rules.links)) }
         ensures err { IfErr result (λ back. back.0 ≡ rules) }

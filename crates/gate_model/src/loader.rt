@@ -2,7 +2,7 @@
 
 ghost use Rattle.std.specs.Prelude.{◌≡◌, ◌<◌, ◌^◌, length, IfOk, IfErr, OnOk, Some, Err};
 ghost use Rattle.gate_entries.specs.Entry.{IsEntry, entry_octets};
-ghost use Rattle.gate_model.specs.Gate.{rules_of, IsGate};
+ghost use Rattle.gate_model.specs.Gate.{rules_of};
 ghost use Rattle.gate_model.specs.Loading.{gate_in, birth_in, loaded, IsTaken, IsOutside, IsNoEntry};
 ghost use Rattle.gate_model.specs.State.{empty};
 
@@ -37,7 +37,6 @@ impl Loader {
     /// Nothing was read yet: the gate of a store of this birth in which nothing has happened. After `Memory` the rules are given back.
     pub fn new(alloc: Global, rules: Rules, birth: u64) -> Result<Loader, (Rules, Memory)>
         requires { length rules.links < 2 ^ 32 }
-        ensures ok { IfOk result (λ loader. IsGate (gate_in loader)) }
         ensures rules { IfOk result (λ loader. rules_of (gate_in loader) ≡ rules) }
         ensures state { IfOk result (λ loader. loaded loader ≡ empty (length rules.links)) }
         ensures birth { IfOk result (λ loader. birth_in loader ≡ birth) }
@@ -54,10 +53,8 @@ impl Loader {
     /// `Outside` exactly where it is no entry, or one that isn't sound after those before it, or where as many entries stand before it as
     /// ever may be recorded. `Memory`. After either the loader can only be dropped.
     pub fn put(&mut self, payload: &[u8]) -> Result<(), LoadFault>
-        requires whole { IsGate (gate_in self.old) }
         ensures taken { OnOk result (IsTaken (birth_in self.old) payload.now (loaded self.old) (loaded self.new)) }
         ensures outside { result ≡ Err LoadFault.Outside → IsOutside payload.now (loaded self.old) }
-        ensures whole { IsGate (gate_in self.new) }
         ensures rules { rules_of (gate_in self.new) ≡ rules_of (gate_in self.old) }
         ensures birth { birth_in self.new ≡ birth_in self.old }
     {

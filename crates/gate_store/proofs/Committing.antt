@@ -1,6 +1,6 @@
 -- An entry that is put last in the journal of a store: what is unsure is taken back, then it is appended.
-use Rattle.std.proofs.Common.{◌≡◌, ◌≤◌, ◌+◌, ◌<◌, ◌⊎◌, inl, inr, ℕ, Bool, true, false, List, [], ◌∷◌, ◌++◌, Option, Some, None, Result, Ok, Err, refl, ap, sym, ◌∙◌, subst}
-use Rattle.std.specs.Prelude.{option_map, if◌then◌else◌}
+use Rattle.std.proofs.Common.{arith, ◌≡◌, ◌≤◌, ◌+◌, ◌<◌, ◌⊎◌, inl, inr, ℕ, Bool, true, false, List, [], ◌∷◌, ◌++◌, Option, Some, None, Result, Ok, Err, refl, ap, sym, ◌∙◌, subst}
+use Rattle.std.specs.Prelude.{option_map, is_some, if◌then◌else◌}
 use Rattle.std.specs.Bool.{OnTrue}
 use Rattle.std.proofs.lemmas.List.{append-nil}
 use Rattle.kn_base.specs.Count.{Rose}
@@ -17,10 +17,12 @@ use Rattle.gate_model.specs.declared.gate.Gate.{Gate}
 use Rattle.gate_model.specs.declared.reply.Reply.{Reply}
 use Rattle.route_rules.specs.declared.rules.Rules.{Rules}
 use Rattle.store_disk.specs.Disk.{Areas}
-use Rattle.store_disk.specs.Story.{Story, LeavesOnly}
+use Rattle.store_disk.specs.Meaning.{Meaning}
+use Rattle.store_disk.specs.Story.{LeavesOnly}
 use Rattle.store_disk.specs.declared.disk.DiskFailed.{DiskFailed}
-use Rattle.store_journal.specs.Journal.{IsJournal, IsHandedOut, Appends, Repairs, MayHold, area_of, is_unsure, left, reserved}
+use Rattle.store_journal.specs.Journal.{IsJournal, IsHandedOut, Appends, Repairs, MayHold, area_of, disk_of, is_unsure, left, reserved}
 use Rattle.store_journal.specs.declared.journal.Journal.{Journal}
+use Rattle.gate_store.specs.Deeds.{repair_calls}
 use Rattle.gate_store.specs.Entries.{payloads, start, state_of}
 use Rattle.gate_store.specs.Reopening.{ReopensTo, MayReopen, MayReopenIn}
 use Rattle.gate_store.specs.Store.{IsStore, IsOpen, disk_in, birth_in, rules_in, state_in, unsure_in}
@@ -41,52 +43,63 @@ pub surely : (birth : ℕ) (rules : Rules) (state : State) (unsure : Option Reco
 surely birth rules state None areas reopens = reopens
 surely birth rules state (Some kept) areas reopens = inl reopens
 
-module _ {D : Type 0} (tells : Bool) (story : D → Story) where
+module _ {D : Type 0} (meaning : Meaning D) where
   -- what an append does by its answer
   pub appends_as : {T : Type 0} (old new : Journal D) (result answer : Result T DiskFailed) → result ≡ answer
-      → ((birth : ℕ) (there : List (List ℕ)) → IsJournal tells story old birth there None → Appends tells story old new result birth there)
-      → (birth : ℕ) (there : List (List ℕ)) → IsJournal tells story old birth there None → Appends tells story old new answer birth there
-  appends_as old new result answer is appended birth there held = subst (λ r. Appends tells story old new r birth there) is (appended birth there held)
+      → ((birth : ℕ) (there : List (List ℕ)) → IsJournal meaning old birth there None → Appends meaning old new result birth there)
+      → (birth : ℕ) (there : List (List ℕ)) → IsJournal meaning old birth there None → Appends meaning old new answer birth there
+  appends_as old new result answer is appended birth there held = subst (λ r. Appends meaning old new r birth there) is (appended birth there held)
 
   -- and what a repair does
   pub repairs_as : {T : Type 0} (old new : Journal D) (result answer : Result T DiskFailed) → result ≡ answer
-      → ((birth : ℕ) (there : List (List ℕ)) (unsure : Option (List ℕ)) → IsJournal tells story old birth there unsure → Repairs tells story old new result birth there unsure)
-      → (birth : ℕ) (there : List (List ℕ)) (unsure : Option (List ℕ)) → IsJournal tells story old birth there unsure → Repairs tells story old new answer birth there unsure
-  repairs_as old new result answer is repaired birth there unsure held = subst (λ r. Repairs tells story old new r birth there unsure) is (repaired birth there unsure held)
+      → ((birth : ℕ) (there : List (List ℕ)) (unsure : Option (List ℕ)) → IsJournal meaning old birth there unsure → Repairs meaning old new result birth there unsure)
+      → (birth : ℕ) (there : List (List ℕ)) (unsure : Option (List ℕ)) → IsJournal meaning old birth there unsure → Repairs meaning old new answer birth there unsure
+  repairs_as old new result answer is repaired birth there unsure held = subst (λ r. Repairs meaning old new r birth there unsure) is (repaired birth there unsure held)
 
   -- an entry that may be recorded may come next behind those that a store holds
-  pub comes_next : (store : Store D) (birth : ℕ) (entries : List Recorded) (kept : Recorded) → IsStore tells story store birth entries → MayRecord store kept
+  pub comes_next : (store : Store D) (birth : ℕ) (entries : List Recorded) (kept : Recorded) → IsStore meaning store birth entries → MayRecord store kept
       → (state_in store).entries < most_entries → ComesNext (state_of birth (rules_in store) entries) (entry_octets kept) kept
   comes_next store birth entries kept is may few =
       subst (λ (s : State). ComesNext s (entry_octets kept) kept) is.state
       (record { spelled = refl; sound = sound-settle (state_in store) kept may.sound; few = few })
 
-module _ {D : Type 0} (tells : Bool) (story : D → Story) (faults calls : D → ℕ) (old new : Store D) where
+module _ {D : Type 0} (meaning : Meaning D) (old new : Store D) where
+  -- a repair makes no call where nothing is unsure
+  pub repairs_few : IsOpen meaning old → (is_unsure old.journal ≡ false → new.journal ≡ old.journal) → meaning.calls (disk_in new) ≤ meaning.calls (disk_in old) + 2
+      → meaning.calls (disk_in new) ≤ meaning.calls (disk_in old) + repair_calls (unsure_in old)
+  repairs_few is_open idle two = by_unsure (unsure_in old) refl
+    where
+      by_unsure : (unsure : Option Recorded) → unsure_in old ≡ unsure → meaning.calls (disk_in new) ≤ meaning.calls (disk_in old) + repair_calls unsure
+      by_unsure None none =
+          let same = idle (is_open.2.journal.doubt ∙ ap (λ (u : Option Recorded). is_some (option_map entry_octets u)) none) in
+          omega (arith, ap (λ (j : Journal D). meaning.calls (disk_of j)) same)
+      by_unsure (Some kept) some = two
+
   -- what was unsure is taken back, or the disk failed
-  module _ (is_open : IsOpen tells story old) (gate : new.gate ≡ old.gate) (born : birth_in new ≡ birth_in old) (stays : left new.journal ≡ left old.journal)
-      (same_reserved : reserved new.journal ≡ reserved old.journal) (kept : faults (disk_in old) ≤ faults (disk_in new))
-      (bounded : calls (disk_in new) ≤ calls (disk_in old) + 2) where
-    store_now : (birth : ℕ) (entries : List Recorded) (unsure : Option Recorded) → IsStore tells story old birth entries → unsure_in new ≡ unsure
-        → IsJournal tells story new.journal birth (payloads entries) (option_map entry_octets unsure) → UnsureComesNext birth (rules_in old) entries unsure
-        → IsStore tells story new birth entries
+  module _ (is_open : IsOpen meaning old) (gate : new.gate ≡ old.gate) (born : birth_in new ≡ birth_in old) (stays : left new.journal ≡ left old.journal)
+      (same_reserved : reserved new.journal ≡ reserved old.journal) (kept : meaning.faults (disk_in old) ≤ meaning.faults (disk_in new))
+      (bounded : meaning.calls (disk_in new) ≤ meaning.calls (disk_in old) + repair_calls (unsure_in old)) where
+    store_now : (birth : ℕ) (entries : List Recorded) (unsure : Option Recorded) → IsStore meaning old birth entries → unsure_in new ≡ unsure
+        → IsJournal meaning new.journal birth (payloads entries) (option_map entry_octets unsure) → UnsureComesNext birth (rules_in old) entries unsure
+        → IsStore meaning new birth entries
     store_now birth entries unsure is doubt journal next =
-        make_store tells story new (rules_in old) birth entries unsure (ap rules_of gate) doubt journal (stays ∙ is.handed_out) is.in_turn next
+        make_store meaning new (rules_in old) birth entries unsure (ap rules_of gate) doubt journal (stays ∙ is.handed_out) is.in_turn next
         (subst (λ (g : Gate). IsGate g) (sym gate) is.whole) (ap (λ (g : Gate). settle (model_of g)) gate ∙ is.state)
 
     -- what a stop on the way leaves
     stops_repaired : {T : Type 0} (result : Result T DiskFailed)
-        → ((birth : ℕ) (payloads : List (List ℕ)) (unsure : Option (List ℕ)) → IsJournal tells story old.journal birth payloads unsure
-        → Repairs tells story old.journal new.journal result birth payloads unsure)
-        → OnTrue tells (LeavesOnly (story (disk_in old)) (story (disk_in new)) (MayReopen (birth_in old) (rules_in old) (state_in old) (unsure_in old)))
+        → ((birth : ℕ) (payloads : List (List ℕ)) (unsure : Option (List ℕ)) → IsJournal meaning old.journal birth payloads unsure
+        → Repairs meaning old.journal new.journal result birth payloads unsure)
+        → OnTrue meaning.tells (LeavesOnly (meaning.story (disk_in old)) (meaning.story (disk_in new)) (MayReopen (birth_in old) (rules_in old) (state_in old) (unsure_in old)))
     stops_repaired result repaired =
         let is = is_open.2 in
-        told_leaves_weaker tells (story (disk_in old)) (story (disk_in new)) _ _ (λ image holds. reopened_by tells story old is_open.0 is_open.1 is image holds)
+        told_leaves_weaker meaning.tells (meaning.story (disk_in old)) (meaning.story (disk_in new)) _ _ (λ image holds. reopened_by meaning old is_open.0 is_open.1 is image holds)
         (repaired is_open.0 (payloads is_open.1) (option_map entry_octets (unsure_in old)) is.journal).stops
 
     pub settles_ok : {T : Type 0} (done : T)
-        → ((birth : ℕ) (payloads : List (List ℕ)) (unsure : Option (List ℕ)) → IsJournal tells story old.journal birth payloads unsure
-        → Repairs tells story old.journal new.journal (Ok done) birth payloads unsure)
-        → unsure_in new ≡ None → faults (disk_in new) ≡ faults (disk_in old) → Settles tells story faults calls old (Ok done) new
+        → ((birth : ℕ) (payloads : List (List ℕ)) (unsure : Option (List ℕ)) → IsJournal meaning old.journal birth payloads unsure
+        → Repairs meaning old.journal new.journal (Ok done) birth payloads unsure)
+        → unsure_in new ≡ None → meaning.faults (disk_in new) ≡ meaning.faults (disk_in old) → Settles meaning old (Ok done) new
     settles_ok done repaired sure unfailed = record {
       gate = gate;
       born = born;
@@ -102,9 +115,9 @@ module _ {D : Type 0} (tells : Bool) (story : D → Story) (faults calls : D →
     }
 
     pub settles_err : {T : Type 0} (failed : DiskFailed)
-        → ((birth : ℕ) (payloads : List (List ℕ)) (unsure : Option (List ℕ)) → IsJournal tells story old.journal birth payloads unsure
-        → Repairs tells story old.journal new.journal (failed_as T failed) birth payloads unsure)
-        → unsure_in new ≡ unsure_in old → Rose (faults (disk_in old)) (faults (disk_in new)) → Settles tells story faults calls old (failed_as T failed) new
+        → ((birth : ℕ) (payloads : List (List ℕ)) (unsure : Option (List ℕ)) → IsJournal meaning old.journal birth payloads unsure
+        → Repairs meaning old.journal new.journal (failed_as T failed) birth payloads unsure)
+        → unsure_in new ≡ unsure_in old → Rose (meaning.faults (disk_in old)) (meaning.faults (disk_in new)) → Settles meaning old (failed_as T failed) new
     settles_err failed repaired same rose = record {
       gate = gate;
       born = born;
@@ -119,26 +132,26 @@ module _ {D : Type 0} (tells : Bool) (story : D → Story) (faults calls : D →
       bounded = bounded;
     }
 
-module _ {D : Type 0} (tells : Bool) (story : D → Story) (faults calls : D → ℕ) (old new : Store D) (entry : Recorded) where
-  module _ (is_open : IsOpen tells story old) (none : unsure_in old ≡ None) (is_reserved : reserved old.journal ≡ entry_octets entry) (may : MayRecord old entry)
+module _ {D : Type 0} (meaning : Meaning D) (old new : Store D) (entry : Recorded) where
+  module _ (is_open : IsOpen meaning old) (none : unsure_in old ≡ None) (is_reserved : reserved old.journal ≡ entry_octets entry) (may : MayRecord old entry)
       (few : (state_in old).entries < most_entries) (ruled : rules_in new ≡ rules_in old) (born : birth_in new ≡ birth_in old)
-      (handed : IsHandedOut new.journal) (whole : IsGate new.gate) (kept : faults (disk_in old) ≤ faults (disk_in new))
-      (bounded : calls (disk_in new) ≤ calls (disk_in old) + 4) where
+      (handed : IsHandedOut new.journal) (whole : IsGate new.gate) (kept : meaning.faults (disk_in old) ≤ meaning.faults (disk_in new))
+      (bounded : meaning.calls (disk_in new) ≤ meaning.calls (disk_in old) + 4) where
     -- the journal of the store before, in which nothing was unsure
-    journal_before : (birth : ℕ) (entries : List Recorded) → IsStore tells story old birth entries → IsJournal tells story old.journal birth (payloads entries) None
-    journal_before birth entries is = subst (λ (u : Option Recorded). IsJournal tells story old.journal birth (payloads entries) (option_map entry_octets u)) none is.journal
+    journal_before : (birth : ℕ) (entries : List Recorded) → IsStore meaning old birth entries → IsJournal meaning old.journal birth (payloads entries) None
+    journal_before birth entries is = subst (λ (u : Option Recorded). IsJournal meaning old.journal birth (payloads entries) (option_map entry_octets u)) none is.journal
 
     stops_appended : {T : Type 0} (result : Result T DiskFailed)
-        → ((birth : ℕ) (payloads : List (List ℕ)) → IsJournal tells story old.journal birth payloads None → Appends tells story old.journal new.journal result birth payloads)
-        → OnTrue tells (LeavesOnly (story (disk_in old)) (story (disk_in new)) (MayReopenIn (birth_in old) (rules_in old) (state_in old) (unsure_in old) entry))
+        → ((birth : ℕ) (payloads : List (List ℕ)) → IsJournal meaning old.journal birth payloads None → Appends meaning old.journal new.journal result birth payloads)
+        → OnTrue meaning.tells (LeavesOnly (meaning.story (disk_in old)) (meaning.story (disk_in new)) (MayReopenIn (birth_in old) (rules_in old) (state_in old) (unsure_in old) entry))
     stops_appended result appended =
         let birth = is_open.0 in
         let entries = is_open.1 in
         let is = is_open.2 in
-        let next = comes_next tells story old birth entries entry is may few in
+        let next = comes_next meaning old birth entries entry is may few in
         let stops = (appended birth (payloads entries) (journal_before birth entries is)).stops in
-        subst (λ (u : Option Recorded). OnTrue tells (LeavesOnly (story (disk_in old)) (story (disk_in new)) (MayReopenIn (birth_in old) (rules_in old) (state_in old) u entry))) (sym none)
-        (told_leaves_weaker tells (story (disk_in old)) (story (disk_in new)) _ _
+        subst (λ (u : Option Recorded). OnTrue meaning.tells (LeavesOnly (meaning.story (disk_in old)) (meaning.story (disk_in new)) (MayReopenIn (birth_in old) (rules_in old) (state_in old) u entry))) (sym none)
+        (told_leaves_weaker meaning.tells (meaning.story (disk_in old)) (meaning.story (disk_in new)) _ _
         (λ image holds. subst (λ b. MayReopenIn b (rules_in old) (state_in old) None entry image) (sym is.journal.born)
         (may_reopen_in birth (rules_in old) entries (state_in old) is.in_turn is.state (area_of old.journal) image entry next
         (subst (λ octets. MayHold birth (area_of old.journal) (payloads entries) (Some octets) image) is_reserved holds)))
@@ -146,9 +159,9 @@ module _ {D : Type 0} (tells : Bool) (story : D → Story) (faults calls : D →
 
     -- it was appended, and done
     pub commits_ok : {T : Type 0} (done : T) (reply : Reply)
-        → ((birth : ℕ) (payloads : List (List ℕ)) → IsJournal tells story old.journal birth payloads None → Appends tells story old.journal new.journal (Ok done) birth payloads)
+        → ((birth : ℕ) (payloads : List (List ℕ)) → IsJournal meaning old.journal birth payloads None → Appends meaning old.journal new.journal (Ok done) birth payloads)
         → unsure_in new ≡ None → state_in new ≡ does (birth_in old) (state_in old) (recorded entry) → reply ≡ reply_to (rules_in old) (state_in old) entry
-        → faults (disk_in new) ≡ faults (disk_in old) → Commits tells story faults calls 4 old entry (Ok reply) new
+        → meaning.faults (disk_in new) ≡ meaning.faults (disk_in old) → Commits meaning 4 old entry (Ok reply) new
     commits_ok done reply appended sure state replied unfailed = record {
       reply = replied;
       ruled = ruled;
@@ -157,11 +170,11 @@ module _ {D : Type 0} (tells : Bool) (story : D → Story) (faults calls : D →
       sure = sure;
       unsure = tt;
       holds = λ birth entries is.
-          let journal = subst (λ octets. IsJournal tells story new.journal birth (payloads entries ++ octets ∷ []) None) is_reserved
+          let journal = subst (λ octets. IsJournal meaning new.journal birth (payloads entries ++ octets ∷ []) None) is_reserved
           (appended birth (payloads entries) (journal_before birth entries is)).ok in
-          make_store tells story new (rules_in old) birth (entries ++ entry ∷ []) None ruled sure
-          (subst (λ ps. IsJournal tells story new.journal birth ps None) (sym (payloads_more entries entry)) journal) handed
-          (in_turn_more birth (start (rules_in old)) entries entry is.in_turn (comes_next tells story old birth entries entry is may few)) tt whole
+          make_store meaning new (rules_in old) birth (entries ++ entry ∷ []) None ruled sure
+          (subst (λ ps. IsJournal meaning new.journal birth ps None) (sym (payloads_more entries entry)) journal) handed
+          (in_turn_more birth (start (rules_in old)) entries entry is.in_turn (comes_next meaning old birth entries entry is may few)) tt whole
           (ap settle state ∙ settle-does (birth_in old) (state_in old) entry ∙ ap (λ b. does b (settle (state_in old)) (recorded entry)) is.journal.born
           ∙ ap (λ s. does birth s (recorded entry)) is.state ∙ sym (after_more birth (start (rules_in old)) entries entry));
       stops = stops_appended (Ok done) appended;
@@ -173,9 +186,9 @@ module _ {D : Type 0} (tells : Bool) (story : D → Story) (faults calls : D →
 
     -- the disk failed, and the entry is unsure or stands nowhere
     pub commits_err : {T : Type 0} (failed : DiskFailed) (doubt : Bool)
-        → ((birth : ℕ) (payloads : List (List ℕ)) → IsJournal tells story old.journal birth payloads None → Appends tells story old.journal new.journal (failed_as T failed) birth payloads)
+        → ((birth : ℕ) (payloads : List (List ℕ)) → IsJournal meaning old.journal birth payloads None → Appends meaning old.journal new.journal (failed_as T failed) birth payloads)
         → is_unsure new.journal ≡ doubt → unsure_in new ≡ (if doubt then Some entry else None) → state_in new ≡ state_in old
-        → Rose (faults (disk_in old)) (faults (disk_in new)) → Commits tells story faults calls 4 old entry (Err failed) new
+        → Rose (meaning.faults (disk_in old)) (meaning.faults (disk_in new)) → Commits meaning 4 old entry (Err failed) new
     commits_err failed doubt appended is_doubt now state rose = record {
       reply = tt;
       ruled = ruled;
@@ -184,12 +197,12 @@ module _ {D : Type 0} (tells : Bool) (story : D → Story) (faults calls : D →
       sure = tt;
       unsure = inr (either doubt now);
       holds = λ birth entries is.
-          subst (IsStore tells story new birth) (sym (append-nil entries))
-          (make_store tells story new (rules_in old) birth entries (if doubt then Some entry else None) ruled now
+          subst (IsStore meaning new birth) (sym (append-nil entries))
+          (make_store meaning new (rules_in old) birth entries (if doubt then Some entry else None) ruled now
           (in_doubt birth entries doubt
-          (subst (λ b. IsJournal tells story new.journal birth (payloads entries) (if b then Some (reserved old.journal) else None)) is_doubt
+          (subst (λ b. IsJournal meaning new.journal birth (payloads entries) (if b then Some (reserved old.journal) else None)) is_doubt
           (appended birth (payloads entries) (journal_before birth entries is)).failed))
-          handed is.in_turn (next_in_doubt birth doubt entries (comes_next tells story old birth entries entry is may few)) whole (ap settle state ∙ is.state));
+          handed is.in_turn (next_in_doubt birth doubt entries (comes_next meaning old birth entries entry is may few)) whole (ap settle state ∙ is.state));
       stops = stops_appended (failed_as _ failed) appended;
       unfailed = tt;
       failed = rose;
@@ -201,9 +214,9 @@ module _ {D : Type 0} (tells : Bool) (story : D → Story) (faults calls : D →
         either true is = inr is
         either false is = inl is
 
-        in_doubt : (birth : ℕ) (entries : List Recorded) (b : Bool) → IsJournal tells story new.journal birth (payloads entries) (if b then Some (reserved old.journal) else None)
-            → IsJournal tells story new.journal birth (payloads entries) (option_map entry_octets (if b then Some entry else None))
-        in_doubt birth entries true is = subst (λ octets. IsJournal tells story new.journal birth (payloads entries) (Some octets)) is_reserved is
+        in_doubt : (birth : ℕ) (entries : List Recorded) (b : Bool) → IsJournal meaning new.journal birth (payloads entries) (if b then Some (reserved old.journal) else None)
+            → IsJournal meaning new.journal birth (payloads entries) (option_map entry_octets (if b then Some entry else None))
+        in_doubt birth entries true is = subst (λ octets. IsJournal meaning new.journal birth (payloads entries) (Some octets)) is_reserved is
         in_doubt birth entries false is = is
 
         next_in_doubt : (birth : ℕ) (b : Bool) (entries : List Recorded) → ComesNext (state_of birth (rules_in old) entries) (entry_octets entry) entry

@@ -1,5 +1,5 @@
 -- The steps of a commit, one behind the other.
-use Rattle.std.proofs.Common.{◌≡◌, ◌⊎◌, inl, inr, ⊎_elim, ℕ, Bool, Option, Some, None, Result, Ok, Err, ap, sym, ◌∙◌, subst, arith}
+use Rattle.std.proofs.Common.{◌≡◌, ◌+◌, ◌⊎◌, inl, inr, ⊎_elim, ℕ, Option, Some, None, Result, Ok, Err, ap, sym, ◌∙◌, subst, arith}
 use Rattle.std.specs.Prelude.{OnOk, OnErr, IfOk, is_ok, if◌then◌else◌}
 use Rattle.kn_base.specs.Count.{Rose}
 use Rattle.gate_entries.specs.declared.recorded.Recorded.{Recorded}
@@ -7,26 +7,28 @@ use Rattle.gate_model.specs.Fold.{does, recorded}
 use Rattle.gate_model.specs.Gate.{model_of, rules_of}
 use Rattle.gate_model.specs.Lawful.{refusal}
 use Rattle.gate_model.specs.Replies.{reply_to}
+use Rattle.gate_model.specs.Settling.{settle}
 use Rattle.gate_model.specs.State.{State}
 use Rattle.gate_model.specs.declared.reply.Refusal.TheVariants.{Disk}
 use Rattle.gate_model.specs.declared.reply.Reply.{Reply}
 use Rattle.route_rules.specs.declared.rules.Rules.{Rules}
 use Rattle.store_disk.specs.Disk.{Areas}
-use Rattle.store_disk.specs.Story.{Story}
+use Rattle.store_disk.specs.Meaning.{Meaning}
 use Rattle.store_disk.specs.declared.disk.DiskFailed.{DiskFailed}
-use Rattle.gate_store.specs.Deeds.{Performs}
+use Rattle.gate_store.specs.Deeds.{Performs, repair_calls}
 use Rattle.gate_store.specs.Reopening.{MayReopenIn}
 use Rattle.gate_store.specs.Store.{IsStore, birth_in, disk_in, rules_in, state_in, unsure_in}
 use Rattle.gate_store.specs.StoreSteps.{Commits, Settles}
 use Rattle.gate_store.specs.declared.store.Store.{Store}
 use Rattle.gate_store.proofs.Committing.{failed_as, surely}
+use Rattle.gate_store.proofs.Reopened.{settle-behind}
 use Rattle.std.proofs.lemmas.List.{append-nil}
 use Rattle.gate_store.proofs.Told.{told_leaves_weaker, told_leaves_both}
 
-module _ {D : Type 0} (tells : Bool) (story : D → Story) (faults calls : D → ℕ) (old mid new : Store D) (entry : Recorded) where
+module _ {D : Type 0} (meaning : Meaning D) (old mid new : Store D) (entry : Recorded) where
   -- the disk failed before anything was appended
-  pub commits_not : {T : Type 0} (failed : DiskFailed) → Settles tells story faults calls old (failed_as T failed) new
-      → Commits tells story faults calls 6 old entry (Err failed) new
+  pub commits_not : {T : Type 0} (failed : DiskFailed) → Settles meaning old (failed_as T failed) new
+      → Commits meaning (repair_calls (unsure_in old) + 4) old entry (Err failed) new
   commits_not failed settles = record {
     reply = tt;
     ruled = ap rules_of settles.gate;
@@ -34,8 +36,8 @@ module _ {D : Type 0} (tells : Bool) (story : D → Story) (faults calls : D →
     state = ap model_of settles.gate;
     sure = tt;
     unsure = inl settles.unsure;
-    holds = λ birth entries is. subst (IsStore tells story new birth) (sym (append-nil entries)) (settles.holds birth entries is);
-    stops = told_leaves_weaker tells (story (disk_in old)) (story (disk_in new)) _ _ (λ image may. inl may) settles.stops;
+    holds = λ birth entries is. subst (IsStore meaning new birth) (sym (append-nil entries)) (settles.holds birth entries is);
+    stops = told_leaves_weaker meaning.tells (meaning.story (disk_in old)) (meaning.story (disk_in new)) _ _ (λ image may. inl may) settles.stops;
     unfailed = tt;
     failed = settles.failed;
     kept = settles.kept;
@@ -64,8 +66,8 @@ module _ {D : Type 0} (tells : Bool) (story : D → Story) (faults calls : D →
   unsure_behind (Err failed) sure now = ⊎_elim (λ same. inr (inl (same ∙ sure))) (λ other. inr other) now
 
   -- what was unsure was taken back, and then the entry was appended, or the disk failed
-  pub commits_behind : {T : Type 0} (done : T) (outcome : Result Reply DiskFailed) → Settles tells story faults calls old (Ok done) mid
-      → Commits tells story faults calls 4 mid entry outcome new → Commits tells story faults calls 6 old entry outcome new
+  pub commits_behind : {T : Type 0} (done : T) (outcome : Result Reply DiskFailed) → Settles meaning old (Ok done) mid
+      → Commits meaning 4 mid entry outcome new → Commits meaning (repair_calls (unsure_in old) + 4) old entry outcome new
   commits_behind done outcome settles commits =
       let ruled : rules_in mid ≡ rules_in old = ap rules_of settles.gate in
       let state : state_in mid ≡ state_in old = ap model_of settles.gate in
@@ -79,18 +81,18 @@ module _ {D : Type 0} (tells : Bool) (story : D → Story) (faults calls : D →
         sure = commits.sure;
         unsure = unsure_behind outcome settles.sure commits.unsure;
         holds = λ birth entries is. commits.holds birth entries (settles.holds birth entries is);
-        stops = told_leaves_both tells (story (disk_in old)) (story (disk_in mid)) (story (disk_in new)) _
-            (told_leaves_weaker tells (story (disk_in old)) (story (disk_in mid)) _ _ (λ image may. inl may) settles.stops)
-            (told_leaves_weaker tells (story (disk_in mid)) (story (disk_in new)) _ _ (stops_behind settles.born ruled state settles.sure) commits.stops);
-        unfailed = subst (λ n. OnOk outcome (faults (disk_in new) ≡ n)) settles.unfailed commits.unfailed;
-        failed = subst (λ n. OnErr outcome (Rose n (faults (disk_in new)))) settles.unfailed commits.failed;
+        stops = told_leaves_both meaning.tells (meaning.story (disk_in old)) (meaning.story (disk_in mid)) (meaning.story (disk_in new)) _
+            (told_leaves_weaker meaning.tells (meaning.story (disk_in old)) (meaning.story (disk_in mid)) _ _ (λ image may. inl may) settles.stops)
+            (told_leaves_weaker meaning.tells (meaning.story (disk_in mid)) (meaning.story (disk_in new)) _ _ (stops_behind settles.born ruled state settles.sure) commits.stops);
+        unfailed = subst (λ n. OnOk outcome (meaning.faults (disk_in new) ≡ n)) settles.unfailed commits.unfailed;
+        failed = subst (λ n. OnErr outcome (Rose n (meaning.faults (disk_in new)))) settles.unfailed commits.failed;
         kept = let first = settles.kept in let then_ = commits.kept in omega arith;
         bounded = let first = settles.bounded in let then_ = commits.bounded in omega arith;
       }
 
   -- what was committed was performed
-  pub performs_ok : (reply : Reply) → refusal (rules_in old) (state_in old) entry ≡ None → Commits tells story faults calls 6 old entry (Ok reply) new
-      → Performs tells story faults calls old entry (Ok reply) new
+  pub performs_ok : (reply : Reply) → refusal (rules_in old) (state_in old) entry ≡ None → Commits meaning (repair_calls (unsure_in old) + 4) old entry (Ok reply) new
+      → Performs meaning old entry (Ok reply) new
   performs_ok reply taken commits = record {
     reason = (taken, commits.reply);
     ruled = commits.ruled;
@@ -101,11 +103,13 @@ module _ {D : Type 0} (tells : Bool) (story : D → Story) (faults calls : D →
     stops = commits.stops;
     counted = commits.unfailed;
     bounded = commits.bounded;
+    settled = ap settle commits.state ∙ settle-behind (birth_in old) (state_in old) entry (Ok reply);
+    untried = tt;
   }
 
   -- the disk failed
-  pub performs_err : (failed : DiskFailed) → refusal (rules_in old) (state_in old) entry ≡ None → Commits tells story faults calls 6 old entry (Err failed) new
-      → Performs tells story faults calls old entry (Err Disk) new
+  pub performs_err : (failed : DiskFailed) → refusal (rules_in old) (state_in old) entry ≡ None → Commits meaning (repair_calls (unsure_in old) + 4) old entry (Err failed) new
+      → Performs meaning old entry (Err Disk) new
   performs_err failed taken commits = record {
     reason = taken;
     ruled = commits.ruled;
@@ -116,4 +120,6 @@ module _ {D : Type 0} (tells : Bool) (story : D → Story) (faults calls : D →
     stops = commits.stops;
     counted = (commits.failed, commits.kept);
     bounded = commits.bounded;
+    settled = ap settle commits.state;
+    untried = tt;
   }

@@ -1,5 +1,5 @@
 -- What became of the messages of a store.
-use Rattle.std.proofs.Common.{◌≡◌, refl, ℕ, Bool, List, [], ◌∷◌, ◌++◌, map, length, sym, ap, ◌∙◌, subst}
+use Rattle.std.proofs.Common.{◌≡◌, refl, ℕ, List, [], ◌∷◌, ◌++◌, map, length, sym, ap, ◌∙◌, subst}
 use Rattle.std.proofs.lemmas.List.{map-append}
 use Rattle.std.proofs.lemmas.List.Sums.{fold-append}
 use Rattle.gate_entries.specs.declared.recorded.Recorded.{Recorded}
@@ -15,7 +15,7 @@ use Rattle.gate_model.proofs.DueLaws.{have_reports}
 use Rattle.gate_model.proofs.FatesLaws.{fates_since_birth}
 use Rattle.gate_model.proofs.OrderLemmas.{IsInOrder-after, IsInOrder-empty}
 use Rattle.gate_model.proofs.SettlingLaws.{totals-settle}
-use Rattle.store_disk.specs.Story.{Story}
+use Rattle.store_disk.specs.Meaning.{Meaning}
 use Rattle.gate_store.specs.Entries.{start, state_of, AreInTurn}
 use Rattle.gate_store.specs.Store.{IsStore, rules_in, state_in}
 use Rattle.gate_store.specs.declared.store.Store.{Store}
@@ -25,13 +25,13 @@ sound_in_turn : (birth : ℕ) (state : State) (entries : List Recorded) → AreI
 sound_in_turn birth state [] turn = tt
 sound_in_turn birth state (kept ∷ entries) turn = (turn.0.sound, sound_in_turn birth (does birth state (recorded kept)) entries turn.1)
 
-module _ {D : Type 0} (tells : Bool) (story : D → Story) (store : Store D) where
+module _ {D : Type 0} (meaning : Meaning D) (store : Store D) where
   -- each message that was accepted has one fate
-  pub fates_by : (birth : ℕ) (entries : List Recorded) → IsStore tells story store birth entries → HaveFates birth (start (rules_in store)) (map recorded entries)
+  pub fates_by : (birth : ℕ) (entries : List Recorded) → IsStore meaning store birth entries → HaveFates birth (start (rules_in store)) (map recorded entries)
   fates_by birth entries is = fates_since_birth birth (length (rules_in store).links) (map recorded entries) (sound_in_turn birth (start (rules_in store)) entries is.in_turn)
 
   -- and all of them are counted
-  pub counted_by : (totals : Totals) → totals ≡ totals_of (state_in store) → (birth : ℕ) (entries : List Recorded) → IsStore tells story store birth entries → AddUp totals
+  pub counted_by : (totals : Totals) → totals ≡ totals_of (state_in store) → (birth : ℕ) (entries : List Recorded) → IsStore meaning store birth entries → AddUp totals
   counted_by totals counts birth entries is =
       subst AddUp (ap totals_of (sym is.state) ∙ totals-settle (state_in store) ∙ sym counts) (fates_by birth entries is).counted
 
@@ -56,9 +56,9 @@ urls-settle state = same state.jobs
     same [] = refl
     same (job ∷ jobs) = ap (λ (urls : List (ℕ × List ℕ)). url_under job ∷ urls) (same jobs)
 
-module _ {D : Type 0} (tells : Bool) (story : D → Story) (store : Store D) where
+module _ {D : Type 0} (meaning : Meaning D) (store : Store D) where
   -- what a store awaits, and which jobs it holds, follows from its entries
-  pub reports_by : (birth : ℕ) (before later : List Recorded) → IsStore tells story store birth (before ++ later)
+  pub reports_by : (birth : ℕ) (before later : List Recorded) → IsStore meaning store birth (before ++ later)
       → HaveReports birth (state_of birth (rules_in store) before) later (state_in store)
   reports_by birth before later is =
       let first = state_of birth (rules_in store) before in

@@ -1,3 +1,4 @@
+pub mod Closing
 pub mod Commits
 pub mod Committing
 pub mod Composing

@@ -45,14 +45,10 @@ named_parts rules state parts =
 
 named : (rules : Rules) (state : State) (kept : Recorded) → IfSome (refusal rules state kept) IsNamed
 named rules state (entry.Accept accept) = named_parts rules state accept.parts
-named rules state (entry.Acked acked) = named_entries state
-named rules state (entry.Rejected rejected) = named_entries state
-named rules state (entry.Reported reported) = named_entries state
 named rules state (entry.Arrived arrived) =
     named_or (past_arrivals rules state) (past_entries state) (named_full _ (length state.arrivals) rules.incoming) (named_entries state)
 named rules state (entry.Answered answered) = named_parts rules state answered.parts
-named rules state (entry.Called called) = named_entries state
-named rules state (entry.CallDropped dropped) = named_entries state
+named rules state other = named_entries state
 
 by_name : (rules : Rules) (state : State) (kept : Recorded) (why : Refusal) → IsNamed why → refusal rules state kept ≡ Some why
     → IsReason rules state kept (Err why) × (is_by_disk {T = Reply} (Err why) ≡ false)

@@ -1,5 +1,5 @@
 -- What a stop leaves of a store reopens to.
-use Rattle.std.proofs.Common.{◌≡◌, inl, inr, ⊎_elim, ℕ, List, [], ◌∷◌, ◌++◌, Option, Some, None, IfSome, refl, ap, sym, ◌∙◌, subst}
+use Rattle.std.proofs.Common.{◌≡◌, inl, inr, ⊎_elim, ℕ, List, [], ◌∷◌, ◌++◌, Option, Some, None, IfSome, Result, Ok, Err, refl, ap, sym, ◌∙◌, subst}
 use Rattle.std.specs.Prelude.{option_map}
 use Rattle.gate_entries.specs.declared.recorded.Recorded.{Recorded}
 use Rattle.gate_entries.specs.Entry.{entry_octets}
@@ -13,6 +13,9 @@ use Rattle.store_disk.specs.Disk.{Areas}
 use Rattle.store_disk.specs.declared.area.Area.{Area}
 use Rattle.store_journal.specs.Area.{born, stands}
 use Rattle.store_journal.specs.Journal.{MayHold}
+use Rattle.gate_model.specs.declared.reply.Refusal.{Refusal}
+use Rattle.gate_model.specs.declared.reply.Reply.{Reply}
+use Rattle.gate_store.specs.Deeds.{state_behind}
 use Rattle.gate_store.specs.Entries.{payloads, start, state_of, AreInTurn, StandsFor}
 use Rattle.gate_store.specs.Reopening.{ReopensTo, MayReopen, MayReopenIn}
 use Rattle.gate_store.proofs.Turns.{after_more, in_turn_more, payloads_more}
@@ -20,6 +23,12 @@ use Rattle.gate_store.proofs.Turns.{after_more, in_turn_more, payloads_more}
 -- what is kept does to what is left of a state what it does to the state
 pub settle-does : (birth : ℕ) (state : State) (kept : Recorded) → settle (does birth state (recorded kept)) ≡ does birth (settle state) (recorded kept)
 settle-does birth state kept = ap counts_entry (settle-keeps birth state kept)
+
+-- and so does an outcome
+pub settle-behind : (birth : ℕ) (state : State) (kept : Recorded) (outcome : Result Reply Refusal)
+    → settle (state_behind birth state kept outcome) ≡ state_behind birth (settle state) kept outcome
+settle-behind birth state kept (Ok reply) = settle-does birth state kept
+settle-behind birth state kept (Err why) = refl
 
 module _
     (birth : ℕ) (rules : Rules) (entries : List Recorded) (state : State)

@@ -1,5 +1,5 @@
 -- Entries in their turn.
-use Rattle.std.proofs.Common.{◌≡◌, ℕ, List, [], ◌∷◌, ◌++◌, map, sym, ap, ◌∙◌, subst}
+use Rattle.std.proofs.Common.{◌≡◌, refl, ℕ, List, [], ◌∷◌, ◌++◌, map, sym, ap, ◌∙◌, subst}
 use Rattle.std.proofs.lemmas.List.{append-nil, map-append}
 use Rattle.std.proofs.lemmas.List.Sums.{fold-append}
 use Rattle.gate_entries.specs.declared.recorded.Recorded.{Recorded}
@@ -8,7 +8,9 @@ use Rattle.gate_entries.proofs.Alone.{one_entry}
 use Rattle.gate_model.specs.Fold.{after, does, recorded}
 use Rattle.gate_model.specs.Loading.{ComesNext, IsOutside}
 use Rattle.gate_model.specs.State.{State}
-use Rattle.gate_store.specs.Entries.{payloads, AreInTurn}
+use Rattle.route_rules.specs.declared.rules.Rules.{Rules}
+use Rattle.store_journal.specs.Area.{Standing, unborn, born, foreign}
+use Rattle.gate_store.specs.Entries.{payloads, start, state_of, AreInTurn, StandsFor}
 
 -- the state behind one entry more
 pub after_more : (birth : ℕ) (state : State) (entries : List Recorded) (kept : Recorded)
@@ -45,3 +47,27 @@ none_in_turn birth state (first ∷ entries) payload rest turn outside (next ∷
     let one : first ≡ next = one_kept state first next turn.0 other.0 octets in
     none_in_turn birth (does birth state (recorded first)) entries payload rest turn.1 outside others
     (subst (λ kept. AreInTurn birth (does birth state (recorded kept)) others) (sym one) other.1) behind
+
+-- entries in their turn are those of their payloads
+same_entries : (birth : ℕ) (state : State) (entries others : List Recorded) → AreInTurn birth state entries → AreInTurn birth state others
+    → payloads entries ≡ payloads others → entries ≡ others
+same_entries birth state [] [] turn other same = refl
+same_entries birth state [] (next ∷ others) turn other same = absurd cc
+same_entries birth state (first ∷ entries) [] turn other same = absurd cc
+same_entries birth state (first ∷ entries) (next ∷ others) turn other same =
+    let octets : entry_octets first ≡ entry_octets next = cc in
+    let behind : payloads entries ≡ payloads others = cc in
+    let one : first ≡ next = one_kept state first next turn.0 other.0 octets in
+    let rest = same_entries birth (does birth state (recorded first)) entries others turn.1
+    (subst (λ kept. AreInTurn birth (does birth state (recorded kept)) others) (sym one) other.1) behind in
+    (λ i. one i ∷ rest i)
+
+-- areas stand for one state
+pub same_state : (rules : Rules) (standing : Standing) (birth other : ℕ) (entries others : List Recorded) → StandsFor standing birth entries → StandsFor standing other others
+    → AreInTurn birth (start rules) entries → AreInTurn other (start rules) others → state_of birth rules entries ≡ state_of other rules others
+same_state rules unborn birth other entries others first second turn then_ = ap (state_of birth rules) first ∙ sym (ap (state_of other rules) second)
+same_state rules (born there area payloads_there) birth other entries others first second turn then_ =
+    let one : other ≡ birth = sym second.0 ∙ first.0 in
+    let same = same_entries birth (start rules) entries others turn (subst (λ b. AreInTurn b (start rules) others) one then_) (sym first.1 ∙ second.1) in
+    ap (state_of birth rules) same ∙ ap (λ b. state_of b rules others) (sym one)
+same_state rules (foreign area at) birth other entries others first second turn then_ = absurd first

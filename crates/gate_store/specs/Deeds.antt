@@ -1,26 +1,29 @@
 -- What the calls of a store do, by their outcome.
-use Rattle.std.specs.Prelude.{◌≡◌, ◌⊎◌, ℕ, ◌≤◌, ◌+◌, Bool, true, false, List, [], ◌∷◌, ◌++◌, ⊤, Option, Some, None, Result, Ok, Err, is_ok, if◌then◌else◌}
+use Rattle.std.specs.Prelude.{◌≡◌, ◌⊎◌, ℕ, ◌≤◌, ◌+◌, Bool, true, false, List, [], ◌∷◌, ◌++◌, ⊤, Option, Some, None, Result, Ok, Err, is_ok, not, if◌then◌else◌}
 use Rattle.std.specs.Bool.{OnTrue}
 use Rattle.std.proofs.Common.{subst}
 use Rattle.kn_base.specs.Count.{Rose}
 use Rattle.kn_base.specs.declared.memory.Memory.{Memory as WantOfMemory}
 use Rattle.gate_entries.specs.declared.cause.Cause.TheVariants.{Expired}
 use Rattle.gate_entries.specs.declared.passing.Passing.{Passing}
-use Rattle.gate_entries.specs.declared.passing.Passing.TheVariants.{Took, TookJob}
+use Rattle.gate_entries.specs.declared.passing.Passing.TheVariants.{Took, TookArrival, TookJob}
 use Rattle.gate_entries.specs.declared.recorded.Recorded.{Recorded}
 use Rattle.gate_entries.specs.declared.recorded.Recorded.TheVariants as entry
 use Rattle.gate_model.specs.Acceptor.{Deed}
 use Rattle.gate_model.specs.Fold.{does, passes, recorded, sms_of}
-use Rattle.gate_model.specs.Gate.{id_of, url_of, returns_of}
+use Rattle.gate_model.specs.Gate.{arrival_of, id_of, url_of, returns_of}
 use Rattle.gate_model.specs.Lawful.{refusal, is_expired}
 use Rattle.gate_model.specs.Replies.{reply_to}
-use Rattle.gate_model.specs.Routing.{next, next_job}
+use Rattle.gate_model.specs.Routing.{next, next_arrival, next_job}
+use Rattle.gate_model.specs.Settling.{settle}
 use Rattle.gate_model.specs.State.{State}
 use Rattle.gate_model.specs.declared.reply.Refusal.{Refusal}
 use Rattle.gate_model.specs.declared.reply.Refusal.TheVariants.{NoRoute, Full, Disk, Memory}
 use Rattle.gate_model.specs.declared.reply.Reply.{Reply}
 use Rattle.route_rules.specs.declared.rules.Rules.{Rules}
-use Rattle.store_disk.specs.Story.{Story, LeavesOnly}
+use Rattle.sms_record.specs.declared.sms.Sms.{Sms}
+use Rattle.store_disk.specs.Meaning.{Meaning}
+use Rattle.store_disk.specs.Story.{LeavesOnly}
 use Rattle.gate_store.specs.Reopening.{MayReopenIn}
 use Rattle.gate_store.specs.Store.{IsStore, disk_in, birth_in, rules_in, state_in, unsure_in}
 use Rattle.gate_store.specs.declared.store.Store.{Store}
@@ -38,6 +41,20 @@ is_disk Memory = false
 abbrev pub is_by_disk : {T : Type 0} → Result T Refusal → Bool
 is_by_disk (Ok x) = false
 is_by_disk (Err refusal) = is_disk refusal
+
+-- the outcome is a refusal before the disk was asked
+abbrev pub is_untried : {T : Type 0} → Result T Refusal → Bool
+is_untried (Ok x) = false
+is_untried (Err refusal) = not (is_disk refusal)
+
+-- the most disk calls that taking back what is unsure needs
+abbrev pub repair_calls : (unsure : Option Recorded) → ℕ
+repair_calls None = 0
+repair_calls (Some kept) = 2
+
+-- the most disk calls of an entry: none where it is refused before the disk is asked, and else four, and two more where one was unsure
+abbrev pub most_calls : {T : Type 0} → (unsure : Option Recorded) → Result T Refusal → ℕ
+most_calls unsure outcome = if is_untried outcome then 0 else repair_calls unsure + 4
 
 -- What an outcome says of an entry that was handed to a store under rules, in a state. It isn't refused, and the reply is the model's;
 -- or the disk failed, or memory was wanting. Or there is no route, or no room.
@@ -92,20 +109,23 @@ abbrev pub MayBeUnsure : Option Recorded → List Deed → Option Recorded → T
 MayBeUnsure before [] now = now ≡ before
 MayBeUnsure before (deed ∷ deeds) now = (between : Option Recorded) × LeavesUnsure before (entry_of deed) deed.outcome between × MayBeUnsure between deeds now
 
-module _ {D : Type 0} (tells : Bool) (story : D → Story) (faults calls : D → ℕ) where
-  -- One entry on a store. Where it was done its state is what the entry makes of it and the entry stands last, and else both are as they
-  -- were. Whenever it stopped, its areas reopen to the state before, or to that with the entry that was unsure, or to that with this entry.
+module _ {D : Type 0} (meaning : Meaning D) where
+  -- One entry on a store. Where it was done its state is what the entry makes of it, also of what is left of it when the store is opened
+  -- again, and the entry stands last, and else both are as they
+  -- were. Where it was refused before the disk was asked, the disk is as it was. Whenever it stopped, its areas reopen to the state before, or to that with the entry that was unsure, or to that with this entry.
   pub record Performs (old : Store D) (kept : Recorded) (outcome : Result Reply Refusal) (new : Store D) : Type 0 where
     pub reason : IsReason (rules_in old) (state_in old) kept outcome
     pub ruled : rules_in new ≡ rules_in old
     pub born : birth_in new ≡ birth_in old
     pub state : state_in new ≡ state_behind (birth_in old) (state_in old) kept outcome
     pub unsure : LeavesUnsure (unsure_in old) kept outcome (unsure_in new)
-    pub holds : (birth : ℕ) (entries : List Recorded) → IsStore tells story old birth entries
-        → IsStore tells story new birth (entries ++ put_behind kept outcome)
-    pub stops : OnTrue tells (LeavesOnly (story (disk_in old)) (story (disk_in new)) (MayReopenIn (birth_in old) (rules_in old) (state_in old) (unsure_in old) kept))
-    pub counted : CountsFault (is_by_disk outcome) (faults (disk_in old)) (faults (disk_in new))
-    pub bounded : calls (disk_in new) ≤ calls (disk_in old) + 6
+    pub holds : (birth : ℕ) (entries : List Recorded) → IsStore meaning old birth entries
+        → IsStore meaning new birth (entries ++ put_behind kept outcome)
+    pub stops : OnTrue meaning.tells (LeavesOnly (meaning.story (disk_in old)) (meaning.story (disk_in new)) (MayReopenIn (birth_in old) (rules_in old) (state_in old) (unsure_in old) kept))
+    pub counted : CountsFault (is_by_disk outcome) (meaning.faults (disk_in old)) (meaning.faults (disk_in new))
+    pub bounded : meaning.calls (disk_in new) ≤ meaning.calls (disk_in old) + most_calls (unsure_in old) outcome
+    pub settled : settle (state_in new) ≡ state_behind (birth_in old) (settle (state_in old)) kept outcome
+    pub untried : OnTrue (is_untried outcome) (disk_in new ≡ disk_in old)
 
   -- one deed
   abbrev pub Does : Store D → Deed → Store D → Type 0
@@ -121,14 +141,16 @@ module _ {D : Type 0} (tells : Bool) (story : D → Story) (faults calls : D →
   Leads-append a b c [] ys first then_ = subst (λ s. Leads s ys c) first then_
   Leads-append a b c (deed ∷ xs) ys first then_ = (first.0, first.1, Leads-append first.0 b c xs ys first.2 then_)
 
-  -- An entry that isn't recorded: the state is what it makes of it, and nothing else changes.
+  -- An entry that isn't recorded: the state is what it makes of it, of which nothing is left when the store is opened again, and nothing else
+  -- changes.
   pub record Passes (old : Store D) (brief : Passing) (new : Store D) : Type 0 where
     pub ruled : rules_in new ≡ rules_in old
     pub born : birth_in new ≡ birth_in old
     pub state : state_in new ≡ passes brief (state_in old)
+    pub settled : settle (state_in new) ≡ settle (state_in old)
     pub unsure : unsure_in new ≡ unsure_in old
     pub disk : disk_in new ≡ disk_in old
-    pub holds : (birth : ℕ) (entries : List Recorded) → IsStore tells story old birth entries → IsStore tells story new birth entries
+    pub holds : (birth : ℕ) (entries : List Recorded) → IsStore meaning old birth entries → IsStore meaning new birth entries
 
   -- ---- the next message of a link
 
@@ -178,3 +200,21 @@ module _ {D : Type 0} (tells : Bool) (story : D → Story) (faults calls : D →
 
   abbrev pub TakesNextJob : Store D → Result (Option (ℕ × List ℕ × ℕ)) WantOfMemory → Store D → Type 0
   TakesNextJob old outcome new = TakesJob old (next_job (state_in old)) outcome new
+
+  -- ---- the next arrival
+
+  -- What a store answers to whoever asks for the next arrival, which is this one: it is taken, and the message is handed out; or memory was
+  -- wanting, and nothing has changed.
+  abbrev pub TakesThisArrival : Store D → (arrival : ℕ) → Result (Option (ℕ × Sms)) WantOfMemory → Store D → Type 0
+  TakesThisArrival old arrival (Ok None) new = ⊥
+  TakesThisArrival old arrival (Ok (Some taken)) new =
+      (taken.0 ≡ arrival) × (Some taken.1 ≡ arrival_of arrival (state_in old)) × Passes old (TookArrival arrival) new
+  TakesThisArrival old arrival (Err memory) new = new ≡ old
+
+  -- what a store answers to whoever asks for the next arrival: nothing exactly where there is none
+  abbrev pub TakesArrival : Store D → Option ℕ → Result (Option (ℕ × Sms)) WantOfMemory → Store D → Type 0
+  TakesArrival old None outcome new = (outcome ≡ Ok None) × (new ≡ old)
+  TakesArrival old (Some arrival) outcome new = TakesThisArrival old arrival outcome new
+
+  abbrev pub TakesNextArrival : Store D → Result (Option (ℕ × Sms)) WantOfMemory → Store D → Type 0
+  TakesNextArrival old outcome new = TakesArrival old (next_arrival (state_in old)) outcome new

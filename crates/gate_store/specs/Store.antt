@@ -1,16 +1,19 @@
 -- What a store holds, and what came of opening one.
-use Rattle.std.specs.Prelude.{◌≡◌, ◌≤◌, ◌+◌, ℕ, Bool, List, Option, None, IfSome, option_map}
+use Rattle.std.specs.Prelude.{◌≡◌, ◌⊎◌, ◌≤◌, ◌+◌, ℕ, List, Option, Some, None, IfSome, option_map}
 use Rattle.std.specs.Bool.{OnTrue}
 use Rattle.kn_base.specs.Count.{Rose}
 use Rattle.gate_entries.specs.declared.recorded.Recorded.{Recorded}
 use Rattle.gate_entries.specs.Entry.{entry_octets}
+use Rattle.gate_model.specs.Fold.{does, recorded}
 use Rattle.gate_model.specs.Gate.{IsGate, model_of, rules_of}
 use Rattle.gate_model.specs.Loading.{ComesNext}
 use Rattle.gate_model.specs.Settling.{settle}
 use Rattle.gate_model.specs.State.{State}
 use Rattle.route_rules.specs.declared.rules.Rules.{Rules}
 use Rattle.store_journal.specs.Area.{stands, unborn}
-use Rattle.store_disk.specs.Story.{Story, reads}
+use Rattle.store_disk.specs.Disk.{Areas}
+use Rattle.store_disk.specs.Meaning.{Meaning}
+use Rattle.store_disk.specs.Story.{reads}
 use Rattle.store_journal.specs.Journal.{IsJournal, IsHandedOut, IsUntouched, disk_of, birth_of as birth_in_journal}
 use Rattle.gate_store.specs.Entries.{payloads, start, state_of, AreInTurn, StandsFor, IsForeign}
 use Rattle.gate_store.specs.Reopening.{ReopensAlike}
@@ -40,8 +43,8 @@ module _ {D : Type 0} where
 
   -- The store holds these entries: its journal does, all are handed out, each came in its turn, and what they make is left of its state
   -- when it is opened again. An entry that is unsure may come next.
-  pub record IsStore (tells : Bool) (story : D → Story) (store : Store D) (birth : ℕ) (entries : List Recorded) : Type 0 where
-    pub journal : IsJournal tells story store.journal birth (payloads entries) (option_map entry_octets store.unsure)
+  pub record IsStore (meaning : Meaning D) (store : Store D) (birth : ℕ) (entries : List Recorded) : Type 0 where
+    pub journal : IsJournal meaning store.journal birth (payloads entries) (option_map entry_octets store.unsure)
     pub handed_out : IsHandedOut store.journal
     pub in_turn : AreInTurn birth (start (rules_in store)) entries
     pub unsure : IfSome store.unsure (λ kept. ComesNext (state_of birth (rules_in store) entries) (entry_octets kept) kept)
@@ -49,33 +52,43 @@ module _ {D : Type 0} where
     pub state : settle (state_in store) ≡ state_of birth (rules_in store) entries
 
   -- the store holds some entries
-  abbrev pub IsOpen : Bool → (D → Story) → Store D → Type 0
-  IsOpen tells story store = (birth : ℕ) × (entries : List Recorded) × IsStore tells story store birth entries
+  abbrev pub IsOpen : Meaning D → Store D → Type 0
+  IsOpen meaning store = (birth : ℕ) × (entries : List Recorded) × IsStore meaning store birth entries
 
   -- The store that was opened on a disk, under these rules: it holds the entries that the disk's areas stood for, and the state that they
   -- make; one that wasn't born has this birth; nothing is unsure, and no disk call failed. A stop on the way leaves nothing new.
-  pub record IsOpened (tells : Bool) (story : D → Story) (faults calls : D → ℕ) (disk : D) (rules : Rules) (birth : ℕ) (store : Store D) : Type 0 where
+  pub record IsOpened (meaning : Meaning D) (disk : D) (rules : Rules) (birth : ℕ) (store : Store D) : Type 0 where
     pub entries : List Recorded
-    pub holds : IsStore tells story store (birth_in store) entries
-    pub stood : OnTrue tells (StandsFor (stands (reads (story disk))) (birth_in store) entries)
-    pub born : OnTrue tells (stands (reads (story disk)) ≡ unborn → birth_in store ≡ birth)
+    pub holds : IsStore meaning store (birth_in store) entries
+    pub stood : OnTrue meaning.tells (StandsFor (stands (reads (meaning.story disk))) (birth_in store) entries)
+    pub born : OnTrue meaning.tells (stands (reads (meaning.story disk)) ≡ unborn → birth_in store ≡ birth)
     pub ruled : rules_in store ≡ rules
     pub state : state_in store ≡ state_of (birth_in store) rules entries
     pub sure : unsure_in store ≡ None
-    pub stops : OnTrue tells (ReopensAlike rules (story disk) (story (disk_in store)))
-    pub unfailed : faults (disk_in store) ≡ faults disk
-    pub bounded : calls (disk_in store) ≤ calls disk + 20
+    pub stops : OnTrue meaning.tells (ReopensAlike rules (meaning.story disk) (meaning.story (disk_in store)))
+    pub unfailed : meaning.faults (disk_in store) ≡ meaning.faults disk
+    pub bounded : meaning.calls (disk_in store) ≤ meaning.calls disk + 20
 
   -- why no store was opened on a disk: from this place of this area on it holds none, or the disk failed, or memory was wanting
-  abbrev pub IsUnopened : Bool → (D → Story) → (D → ℕ) → D → Rules → D → StoreFault → Type 0
-  IsUnopened tells story faults disk rules back (Foreign area at) = (faults back ≡ faults disk) × OnTrue tells (IsForeign rules (stands (reads (story disk))) area at)
-  IsUnopened tells story faults disk rules back Disk = Rose (faults disk) (faults back)
-  IsUnopened tells story faults disk rules back Memory = faults back ≡ faults disk
+  abbrev pub IsUnopened : Meaning D → D → Rules → D → StoreFault → Type 0
+  IsUnopened meaning disk rules back (Foreign area at) = (meaning.faults back ≡ meaning.faults disk) × OnTrue meaning.tells (IsForeign rules (stands (reads (meaning.story disk))) area at)
+  IsUnopened meaning disk rules back Disk = Rose (meaning.faults disk) (meaning.faults back)
+  IsUnopened meaning disk rules back Memory = meaning.faults back ≡ meaning.faults disk
 
   -- No store was opened on a disk, which is handed back: why, and that nothing that it held is lost, whenever it stopped.
-  pub record GivesBack (tells : Bool) (story : D → Story) (faults calls : D → ℕ) (disk : D) (rules : Rules) (back : D) (fault : StoreFault) : Type 0 where
-    pub cause : IsUnopened tells story faults disk rules back fault
-    pub untouched : OnTrue tells (IsUntouched (reads (story disk)) (reads (story back)))
-    pub stops : OnTrue tells (ReopensAlike rules (story disk) (story back))
-    pub kept : faults disk ≤ faults back
-    pub bounded : calls back ≤ calls disk + 20
+  pub record GivesBack (meaning : Meaning D) (disk : D) (rules : Rules) (back : D) (fault : StoreFault) : Type 0 where
+    pub cause : IsUnopened meaning disk rules back fault
+    pub untouched : OnTrue meaning.tells (IsUntouched (reads (meaning.story disk)) (reads (meaning.story back)))
+    pub stops : OnTrue meaning.tells (ReopensAlike rules (meaning.story disk) (meaning.story back))
+    pub kept : meaning.faults disk ≤ meaning.faults back
+    pub bounded : meaning.calls back ≤ meaning.calls disk + 20
+
+  -- a store that is opened under these rules on a disk which reads as these areas holds what is left of a state
+  abbrev pub HoldsLeft : Meaning D → Rules → State → Areas → Type 0
+  HoldsLeft meaning rules state areas =
+      (disk : D) (birth : ℕ) (store : Store D) → reads (meaning.story disk) ≡ areas → IsOpened meaning disk rules birth store → state_in store ≡ settle state
+
+  -- it does, or, where an entry is unsure, it holds what the state is with it
+  abbrev pub MayHoldLeft : Meaning D → (birth : ℕ) → Rules → State → (unsure : Option Recorded) → Areas → Type 0
+  MayHoldLeft meaning birth rules state None areas = HoldsLeft meaning rules state areas
+  MayHoldLeft meaning birth rules state (Some unsure) areas = HoldsLeft meaning rules state areas ⊎ HoldsLeft meaning rules (does birth state (recorded unsure)) areas

@@ -12,11 +12,11 @@ ghost use Rattle.gate_model.specs.Lawful.{refusal, most_entries, MayPass};
 ghost use Rattle.gate_model.specs.State.{totals_of};
 ghost use Rattle.store_disk.specs.Disk.{Areas};
 ghost use Rattle.store_disk.specs.Story.{IsImage};
-ghost use Rattle.store_journal.specs.Journal.{reserved};
-ghost use Rattle.gate_store.specs.Deeds.{Performs, Passes};
+ghost use Rattle.store_journal.specs.Journal.{OpensOver, reserved};
+ghost use Rattle.gate_store.specs.Deeds.{Performs, Passes, repair_calls};
 ghost use Rattle.gate_store.specs.Entries.{start, state_of};
 ghost use Rattle.gate_store.specs.Reopening.{MayReopen, MayStandFor};
-ghost use Rattle.gate_store.specs.Store.{IsStore, IsOpen, IsOpened, GivesBack, disk_in, birth_in, rules_in, state_in, unsure_in};
+ghost use Rattle.gate_store.specs.Store.{IsStore, IsOpen, MayHoldLeft, IsOpened, GivesBack, disk_in, birth_in, rules_in, state_in, unsure_in};
 ghost use Rattle.gate_store.specs.StoreSteps.{MayRecord, Reserves, Settles, Commits};
 
 mod entries;
@@ -48,7 +48,8 @@ impl<D: Disk> Store<D> {
     /// how many messages may wait in it.
     ///
     /// `Foreign` exactly where what the disk holds is no store, with the first place that doesn't fit; `Disk` only where a disk call failed,
-    /// `Memory` where there was none. Each fault gives the disk back; nothing that was stored is lost.
+    /// `Memory` where there was none. Each fault gives the disk back; nothing that was stored is lost. A stop on the way leaves what was stored, or
+    /// a store that was born with this birth.
     pub fn open(
         alloc: Global,
         disk: D,
@@ -56,8 +57,10 @@ impl<D: Disk> Store<D> {
         birth: u64,
     ) -> Result<Store<D>, (D, StoreFault)>
         requires few_links { length rules.links < 2 ^ 32 }
-        ensures ok { IfOk result (IsOpened D.tells D.story D.faults D.calls disk rules birth) }
-        ensures err { IfErr result (λ fault. GivesBack D.tells D.story D.faults D.calls disk rules fault.0 fault.1) }
+        ensures ok { IfOk result (IsOpened D.meaning disk rules birth) }
+        ensures err { IfErr result (λ fault. GivesBack D.meaning disk rules fault.0 fault.1) }
+        ensures births { IfOk result (λ store. OnTrue D.meaning.tells (OpensOver birth (D.meaning.story disk) (D.meaning.story (disk_in store)))) }
+        ensures births_back { IfErr result (λ fault. OnTrue D.meaning.tells (OpensOver birth (D.meaning.story disk) (D.meaning.story fault.0))) }
     {
         match Journal::open(alloc, disk, birth) {
             Ok(journal) => load(alloc, rules, journal),
@@ -100,11 +103,11 @@ impl<D: Disk> Store<D> {
     /// there, and the URLs that are due by the others under the next numbers, but those of which one says that they are done with.
     pub fn totals(&self) -> Totals
         ensures totals { result ≡ totals_of (state_in self.now) }
-        ensures fates { (birth : ℕ) (entries : List Recorded) → IsStore D.tells D.story self.now birth entries
+        ensures fates { (birth : ℕ) (entries : List Recorded) → IsStore D.meaning self.now birth entries
             → HaveFates birth (start (rules_in self.now)) (map recorded entries) }
-        ensures counted { (birth : ℕ) (entries : List Recorded) → IsStore D.tells D.story self.now birth entries
+        ensures counted { (birth : ℕ) (entries : List Recorded) → IsStore D.meaning self.now birth entries
             → AddUp result }
-        ensures reports { (birth : ℕ) (before later : List Recorded) → IsStore D.tells D.story self.now birth (before ++ later)
+        ensures reports { (birth : ℕ) (before later : List Recorded) → IsStore D.meaning self.now birth (before ++ later)
             → HaveReports birth (state_of birth (rules_in self.now) before) later (state_in self.now) }
     {
         self.gate.totals()
@@ -113,11 +116,12 @@ impl<D: Disk> Store<D> {
     /// Records an entry on the disk, and does it. An entry that is unsure is taken back first.
     ///
     /// `NoRoute` and `Full` exactly where the model refuses it so, in this order; `Memory` where there was none; `Disk` only where a disk call
-    /// failed. Only an entry that was done is kept, but that one refused with `Disk` may be unsure then. Six disk calls at most.
+    /// failed. Only an entry that was done is kept, but that one refused with `Disk` may be unsure then. A refusal but `Disk` leaves the disk as it was; else
+    /// there are four disk calls at most, and two more where an entry was unsure.
     pub fn perform(&mut self, entry: Recorded) -> Result<Reply, Refusal>
-        requires kept { IsOpen D.tells D.story self.old }
+        requires kept { IsOpen D.meaning self.old }
         requires may { MayRecord self.old entry }
-        ensures { Performs D.tells D.story D.faults D.calls self.old entry result self.new }
+        ensures { Performs D.meaning self.old entry result self.new }
     {
         match self.gate.check(&entry) {
             Ok(()) => self.record(entry),
@@ -127,10 +131,10 @@ impl<D: Disk> Store<D> {
 
     // Records an entry that isn't refused.
     fn record(&mut self, entry: Recorded) -> Result<Reply, Refusal>
-        requires kept { IsOpen D.tells D.story self.old }
+        requires kept { IsOpen D.meaning self.old }
         requires may { MayRecord self.old entry }
         requires taken { refusal (rules_in self.old) (state_in self.old) entry ≡ None }
-        ensures { Performs D.tells D.story D.faults D.calls self.old entry result self.new }
+        ensures { Performs D.meaning self.old entry result self.new }
     {
         match self.gate.prepare(entry, self.journal.birth()) {
             Ok(ready) => self.commit(ready),
@@ -140,12 +144,12 @@ impl<D: Disk> Store<D> {
 
     // Puts an entry last in the journal, and does it. All memory is taken before the first disk call.
     fn commit(&mut self, ready: Ready) -> Result<Reply, Refusal>
-        requires kept { IsOpen D.tells D.story self.old }
+        requires kept { IsOpen D.meaning self.old }
         requires room { HasRoom self.old.gate ready }
         requires born { birth_of ready ≡ birth_in self.old }
         requires may { MayRecord self.old (prepared ready) }
         requires taken { refusal (rules_in self.old) (state_in self.old) (prepared ready) ≡ None }
-        ensures { Performs D.tells D.story D.faults D.calls self.old (prepared ready) result self.new }
+        ensures { Performs D.meaning self.old (prepared ready) result self.new }
     {
         if let Err(Memory) = self.reserve(ready.entry()) {
             return Err(Refusal::Memory);
@@ -158,10 +162,10 @@ impl<D: Disk> Store<D> {
 
     // Takes the memory for an entry in the journal.
     fn reserve(&mut self, entry: &Recorded) -> Result<(), Memory>
-        requires kept { IsOpen D.tells D.story self.old }
+        requires kept { IsOpen D.meaning self.old }
         requires may { MayRecord self.old entry.now }
         ensures same { self.new ≡ record self.old { journal = self.new.journal } }
-        ensures reserves { Reserves D.tells D.story self.old self.new }
+        ensures reserves { Reserves D.meaning self.old self.new }
         ensures ok { OnOk result (reserved self.new.journal ≡ entry_octets entry.now) }
     {
         let mut payload = Octets::new(self.alloc);
@@ -171,8 +175,8 @@ impl<D: Disk> Store<D> {
 
     // Takes back an entry that is unsure, for good.
     fn repair(&mut self) -> Result<(), DiskFailed>
-        requires kept { IsOpen D.tells D.story self.old }
-        ensures { Settles D.tells D.story D.faults D.calls self.old result self.new }
+        requires kept { IsOpen D.meaning self.old }
+        ensures { Settles D.meaning self.old result self.new }
     {
         match self.journal.repair() {
             Ok(()) => {
@@ -185,13 +189,13 @@ impl<D: Disk> Store<D> {
 
     // Appends an entry that is reserved, and does it, once what is unsure is taken back.
     fn repair_and_append(&mut self, ready: Ready) -> Result<Reply, DiskFailed>
-        requires kept { IsOpen D.tells D.story self.old }
+        requires kept { IsOpen D.meaning self.old }
         requires reserved { reserved self.old.journal ≡ entry_octets (prepared ready) }
         requires room { HasRoom self.old.gate ready }
         requires born { birth_of ready ≡ birth_in self.old }
         requires may { MayRecord self.old (prepared ready) }
         requires few { (state_in self.old).entries < most_entries }
-        ensures { Commits D.tells D.story D.faults D.calls 6 self.old (prepared ready) result self.new }
+        ensures { Commits D.meaning (repair_calls (unsure_in self.old) + 4) self.old (prepared ready) result self.new }
     {
         match self.repair() {
             Ok(()) => self.append(ready),
@@ -201,14 +205,14 @@ impl<D: Disk> Store<D> {
 
     // Appends an entry that is reserved, and does it. Nothing is unsure.
     fn append(&mut self, ready: Ready) -> Result<Reply, DiskFailed>
-        requires kept { IsOpen D.tells D.story self.old }
+        requires kept { IsOpen D.meaning self.old }
         requires sure { unsure_in self.old ≡ None }
         requires reserved { reserved self.old.journal ≡ entry_octets (prepared ready) }
         requires room { HasRoom self.old.gate ready }
         requires born { birth_of ready ≡ birth_in self.old }
         requires may { MayRecord self.old (prepared ready) }
         requires few { (state_in self.old).entries < most_entries }
-        ensures { Commits D.tells D.story D.faults D.calls 4 self.old (prepared ready) result self.new }
+        ensures { Commits D.meaning 4 self.old (prepared ready) result self.new }
     {
         match self.journal.append() {
             Ok(()) => Ok(self.gate.apply(ready)),
@@ -223,21 +227,23 @@ impl<D: Disk> Store<D> {
 
     /// Does an entry that isn't recorded. It takes no memory and makes no disk call.
     pub fn pass(&mut self, entry: Passing)
-        requires kept { IsOpen D.tells D.story self.old }
+        requires kept { IsOpen D.meaning self.old }
         requires lawful { MayPass (rules_in self.old) (state_in self.old) entry }
-        ensures { Passes D.tells D.story D.faults D.calls self.old entry self.new }
+        ensures { Passes D.meaning self.old entry self.new }
     {
         self.gate.pass(entry);
     }
 
     /// Ends the store and gives its disk back. Whatever a stop leaves of it from then on reopens to what is left of the state, or, where an
-    /// entry is unsure, to what the state is with it.
+    /// entry is unsure, to what the state is with it: whoever opens it under the same rules has that.
     pub fn close(self) -> D
         ensures disk { result ≡ disk_in self }
-        ensures stands { (birth : ℕ) (entries : List Recorded) → IsStore D.tells D.story self birth entries
-            → OnTrue D.tells ((image : Areas) → IsImage (D.story result) image → MayStandFor birth entries (unsure_in self) image) }
-        ensures stops { (birth : ℕ) (entries : List Recorded) → IsStore D.tells D.story self birth entries
-            → OnTrue D.tells ((image : Areas) → IsImage (D.story result) image → MayReopen (birth_in self) (rules_in self) (state_in self) (unsure_in self) image) }
+        ensures stands { (birth : ℕ) (entries : List Recorded) → IsStore D.meaning self birth entries
+            → OnTrue D.meaning.tells ((image : Areas) → IsImage (D.meaning.story result) image → MayStandFor birth entries (unsure_in self) image) }
+        ensures stops { (birth : ℕ) (entries : List Recorded) → IsStore D.meaning self birth entries
+            → OnTrue D.meaning.tells ((image : Areas) → IsImage (D.meaning.story result) image → MayReopen (birth_in self) (rules_in self) (state_in self) (unsure_in self) image) }
+        ensures left { (birth : ℕ) (entries : List Recorded) → IsStore D.meaning self birth entries
+            → OnTrue D.meaning.tells ((image : Areas) → IsImage (D.meaning.story result) image → MayHoldLeft D.meaning (birth_in self) (rules_in self) (state_in self) (unsure_in self) image) }
     {
         let Store {
             alloc: _,
@@ -254,15 +260,15 @@ impl<D: Disk> Acceptor for Store<D> {
     ghost use Rattle.gate_store.specs.Store.{IsOpen, disk_in};
     ghost use Rattle.gate_store.specs.Deeds.{Leads, Leads-append};
 
-    ghost faults = { λ store. D.faults (disk_in store) };
+    ghost faults = { λ store. D.meaning.faults (disk_in store) };
 
-    ghost leads = { Leads D.tells D.story D.faults D.calls };
+    ghost leads = { Leads D.meaning };
 
-    ghost can_submit = { IsOpen D.tells D.story };
+    ghost can_submit = { IsOpen D.meaning };
 
     ghost leads_nowhere = { λ store. refl };
 
-    ghost leads_on = { Leads-append D.tells D.story D.faults D.calls };
+    ghost leads_on = { Leads-append D.meaning };
 
     fn submit(&mut self, parts: Vec<Sms>, time: u64) -> Result<Reply, Refusal> {
         self.perform(Recorded::Accept(Accept {

@@ -37,16 +37,16 @@ fn no_rules(alloc: Global) -> Rules
 
 /// Takes the next job that nobody has taken: its number, its URL, and how often it was given back.
 fn take<D: Disk>(store: &mut Store<D>) -> Result<Option<(u64, Octets, u32)>, Memory>
-    requires { IsOpen D.tells D.story store.old }
-    ensures { IsOpen D.tells D.story store.new }
+    requires { IsOpen D.meaning store.old }
+    ensures { IsOpen D.meaning store.new }
 {
     store.take_job()
 }
 
 /// Puts the next job last, where there is one, as a line.
 fn put_job<D: Disk>(store: &mut Store<D>, lines: &mut Octets) -> Result<(), Memory>
-    requires { IsOpen D.tells D.story store.old }
-    ensures { IsOpen D.tells D.story store.new }
+    requires { IsOpen D.meaning store.old }
+    ensures { IsOpen D.meaning store.new }
 {
     if let Some((job, url, _)) = take(store)? {
         put_named(lines, b"", job)?;
@@ -67,7 +67,7 @@ fn put_totals(lines: &mut Octets, totals: Totals) -> Result<(), Memory> {
 
 /// Puts what a store counts of reports last, and then each job, in the order in which they are handed out.
 fn put_jobs<D: Disk>(store: &mut Store<D>, lines: &mut Octets) -> Result<(), Memory>
-    requires { IsOpen D.tells D.story store.old }
+    requires { IsOpen D.meaning store.old }
 {
     let totals = store.totals();
     put_totals(lines, totals)?;
@@ -79,7 +79,7 @@ fn put_jobs<D: Disk>(store: &mut Store<D>, lines: &mut Octets) -> Result<(), Mem
 
 /// Puts what a store holds of reports last, and closes it.
 fn put_store<D: Disk + Drop>(store: Store<D>, lines: &mut Octets) -> Result<(), Memory>
-    requires { IsOpen D.tells D.story store }
+    requires { IsOpen D.meaning store }
 {
     let mut store = store;
     let put = put_jobs(&mut store, lines);

@@ -185,7 +185,7 @@ module _ {D : Type 0} (meaning : Meaning D) where
   same_faults old new same = subst (λ (s : Store D). faults_of old ≤ faults_of s) (sym same) (omega arith)
 
   passes_faults : (old new : Store D) (brief : Passing) → Passes meaning old brief new → faults_of old ≤ faults_of new
-  passes_faults old new brief done = subst (λ (d : D). faults_of old ≤ faults d) (sym done.disk) (omega arith)
+  passes_faults old new brief done = subst (λ (d : D). faults_of old ≤ meaning.faults d) (sym done.disk) (omega arith)
 
   withheld_faults : (expired : Bool) (old new : Store D) (link now message : ℕ) (refusal : Refusal) → Withholds meaning expired old link now message refusal new
       → (faults_of old ≤ faults_of new) × (is_by_disk {T = Option Taken} (Err refusal) ≡ true → Rose (faults_of old) (faults_of new))

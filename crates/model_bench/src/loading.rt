@@ -1,6 +1,5 @@
 //! Entries that are read.
 
-ghost use Rattle.gate_model.specs.Gate.{IsGate};
 ghost use Rattle.gate_model.specs.Loading.{gate_in};
 
 use crate::passage::BIRTH;
@@ -10,7 +9,6 @@ use std::alloc::Global;
 
 /// Hands a loader a payload so many times, and says whether it took each.
 fn put_all(loader: &mut Loader, payload: &[u8], count: u64) -> bool
-    requires { IsGate (gate_in loader.old) }
 {
     for _ in 0..count {
         if loader.put(payload).is_err() {

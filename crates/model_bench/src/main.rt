@@ -6,7 +6,6 @@
 //! them. `load`: so many entries are read. It writes what was counted, and fails where a message was refused or memory was wanting.
 #![tactic(auto)]
 
-ghost use Rattle.gate_model.specs.Gate.{IsGate};
 
 mod loading;
 mod message;
@@ -59,8 +58,6 @@ fn asked_in(course: Course) -> Asked {
 
 /// A link that is up takes each of so many messages, and its centre takes them, and reports on the last, by a course.
 fn send(alloc: Global, gate: &mut Gate, count: u64, course: Course) -> bool
-    requires { IsGate gate.old }
-    ensures { IsGate gate.new }
 {
     match course {
         Course::Accept | Course::Load => true,

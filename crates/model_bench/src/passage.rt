@@ -2,7 +2,7 @@
 
 ghost use Rattle.std.specs.Prelude.{◌≡◌, ◌≤◌, ◌∷◌, [], false, length, IfSome};
 ghost use Rattle.gate_entries.specs.Entry.{IsEntry};
-ghost use Rattle.gate_model.specs.Gate.{IsGate, model_of};
+ghost use Rattle.gate_model.specs.Gate.{model_of};
 
 use crate::message::NOW;
 use crate::rules::rules;
@@ -25,7 +25,6 @@ type Window = [Option<u64>; WINDOW];
 
 /// A gate with one link, which is down.
 pub(crate) fn born(alloc: Global) -> Option<Gate>
-    ensures whole { IfSome result (λ gate. IsGate gate) }
     ensures down { IfSome result (λ gate. (model_of gate).up ≡ false ∷ []) }
 {
     match Gate::new(alloc, rules(alloc).ok()?) {
@@ -36,9 +35,7 @@ pub(crate) fn born(alloc: Global) -> Option<Gate>
 
 /// Hands a gate an entry, and says whether it took it.
 pub(crate) fn put_entry(gate: &mut Gate, entry: Recorded) -> bool
-    requires whole { IsGate gate.old }
     requires spelled { IsEntry entry }
-    ensures whole { IsGate gate.new }
     ensures up { (model_of gate.new).up ≡ (model_of gate.old).up }
 {
     if gate.check(&entry).is_err() {
@@ -58,8 +55,6 @@ pub(crate) fn put_entry(gate: &mut Gate, entry: Recorded) -> bool
 
 /// Hands a gate the entry that a payload is, and says whether it took it.
 fn put_payload(alloc: Global, gate: &mut Gate, payload: &[u8]) -> bool
-    requires { IsGate gate.old }
-    ensures whole { IsGate gate.new }
     ensures up { (model_of gate.new).up ≡ (model_of gate.old).up }
 {
     match read_entry(alloc, payload) {
@@ -70,8 +65,6 @@ fn put_payload(alloc: Global, gate: &mut Gate, payload: &[u8]) -> bool
 
 /// Hands a gate an entry so many times, and says whether it took each.
 pub(crate) fn accept_all(alloc: Global, gate: &mut Gate, payload: &[u8], count: u64) -> bool
-    requires { IsGate gate.old }
-    ensures whole { IsGate gate.new }
     ensures up { (model_of gate.new).up ≡ (model_of gate.old).up }
 {
     for _ in 0..count {
@@ -84,17 +77,13 @@ pub(crate) fn accept_all(alloc: Global, gate: &mut Gate, payload: &[u8], count: 
 
 /// The link is up.
 pub(crate) fn bring_up(gate: &mut Gate)
-    requires whole { IsGate gate.old }
     requires down { (model_of gate.old).up ≡ false ∷ [] }
-    ensures { IsGate gate.new }
 {
     gate.pass(Passing::Up { link: LINK });
 }
 
 /// The link takes the next message, where there is one.
 fn take(gate: &mut Gate) -> Option<u64>
-    requires { IsGate gate.old }
-    ensures { IsGate gate.new }
 {
     let message = gate.next_for(LINK, NOW)?;
     gate.pass(Passing::Took {
@@ -124,8 +113,6 @@ pub(crate) fn name_of(alloc: Global, message: u64, naming: Naming) -> Option<Oct
 
 /// The centre took a message. Whether it is so is said.
 fn acknowledge_one(alloc: Global, gate: &mut Gate, message: u64, naming: Naming) -> bool
-    requires { IsGate gate.old }
-    ensures { IsGate gate.new }
 {
     let Some(foreign) = name_of(alloc, message, naming) else {
         return false;
@@ -143,8 +130,6 @@ fn acknowledge_one(alloc: Global, gate: &mut Gate, message: u64, naming: Naming)
 
 /// The centre took a message of the window, where there is one. Whether it is so is said.
 fn acknowledge(alloc: Global, gate: &mut Gate, taken: Option<u64>, naming: Naming) -> bool
-    requires { IsGate gate.old }
-    ensures { IsGate gate.new }
 {
     match taken {
         Some(message) => acknowledge_one(alloc, gate, message, naming),
@@ -154,8 +139,6 @@ fn acknowledge(alloc: Global, gate: &mut Gate, taken: Option<u64>, naming: Namin
 
 /// The link takes each of so many messages, and the oldest in its window is acknowledged before it takes another.
 pub(crate) fn acknowledge_all(alloc: Global, gate: &mut Gate, count: u64, naming: Naming) -> bool
-    requires { IsGate gate.old }
-    ensures { IsGate gate.new }
 {
     let mut window: Window = [None; WINDOW];
     for turn in 0..count.saturating_add(WINDOW as u64) {
@@ -170,8 +153,6 @@ pub(crate) fn acknowledge_all(alloc: Global, gate: &mut Gate, count: u64, naming
 
 /// The link fills its window.
 fn fill(gate: &mut Gate) -> Window
-    requires { IsGate gate.old }
-    ensures { IsGate gate.new }
 {
     let mut window: Window = [None; WINDOW];
     for place in 0..WINDOW {
@@ -182,8 +163,6 @@ fn fill(gate: &mut Gate) -> Window
 
 /// The messages of a window are acknowledged in this order of their places: 3, 0, 7, 4, 1, 8, 5, 2, 9, 6.
 fn empty(alloc: Global, gate: &mut Gate, window: &Window) -> bool
-    requires { IsGate gate.old }
-    ensures { IsGate gate.new }
 {
     for turn in 0..WINDOW {
         if !acknowledge(
@@ -200,8 +179,6 @@ fn empty(alloc: Global, gate: &mut Gate, window: &Window) -> bool
 
 /// The link takes each of so many messages, and its window is acknowledged, in another order, each time that it is full.
 pub(crate) fn acknowledge_shuffled(alloc: Global, gate: &mut Gate, count: u64) -> bool
-    requires { IsGate gate.old }
-    ensures { IsGate gate.new }
 {
     for _ in 0..count / WINDOW as u64 + 1 {
         let window = fill(gate);

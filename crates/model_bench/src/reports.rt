@@ -1,6 +1,5 @@
 //! Reports of a centre.
 
-ghost use Rattle.gate_model.specs.Gate.{IsGate};
 
 use crate::message::NOW;
 use crate::passage::{Naming, name_of, put_entry};
@@ -15,8 +14,6 @@ const REPORTS: u64 = 1_000;
 
 /// The centre holds a message back. Whether its report was taken is said.
 fn report(alloc: Global, gate: &mut Gate, message: u64) -> bool
-    requires { IsGate gate.old }
-    ensures { IsGate gate.new }
 {
     let Some(foreign) = name_of(alloc, message, Naming::Numbers) else {
         return false;
@@ -35,8 +32,6 @@ fn report(alloc: Global, gate: &mut Gate, message: u64) -> bool
 
 /// The centre reports many times on one message, which stays awaited. Whether each report was taken is said.
 pub(crate) fn report_often(alloc: Global, gate: &mut Gate, message: u64) -> bool
-    requires { IsGate gate.old }
-    ensures { IsGate gate.new }
 {
     for _ in 0..REPORTS {
         if !report(alloc, gate, message) {

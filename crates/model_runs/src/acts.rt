@@ -2,7 +2,7 @@
 
 ghost use Rattle.std.specs.Prelude.{◌≡◌, ◌<◌, ℕ, false, replicate};
 ghost use Rattle.gate_entries.specs.Entry.{IsEntry};
-ghost use Rattle.gate_model.specs.Gate.{IsGate, HasRoom, model_of, entry_of};
+ghost use Rattle.gate_model.specs.Gate.{HasRoom, model_of, entry_of};
 ghost use Rattle.gate_model.specs.Lawful.{IsSound, most_entries};
 
 use crate::entries::{entry_octets, nth};
@@ -87,11 +87,9 @@ fn put_number(report: &mut Octets, number: Option<u64>) -> Result<(), Memory> {
 
 /// Hands a gate an entry for which it has room.
 fn put_applied(gate: &mut Gate, ready: Ready, report: &mut Octets) -> Result<(), Memory>
-    requires whole { IsGate gate.old }
     requires room { HasRoom gate.old ready }
     requires few { (model_of gate.old).entries < most_entries }
     requires sound { IsSound (model_of gate.old) (entry_of ready) }
-    ensures { IsGate gate.new }
 {
     let reply = gate.apply(ready);
     put_reply(report, reply)
@@ -99,10 +97,8 @@ fn put_applied(gate: &mut Gate, ready: Ready, report: &mut Octets) -> Result<(),
 
 /// Prepares a sound entry, and hands it to a gate.
 fn put_prepared(gate: &mut Gate, entry: Recorded, report: &mut Octets) -> Result<(), Memory>
-    requires whole { IsGate gate.old }
     requires few { (model_of gate.old).entries < most_entries }
     requires sound { IsSound (model_of gate.old) entry }
-    ensures { IsGate gate.new }
 {
     match gate.prepare(entry, 1) {
         Ok(ready) => put_applied(gate, ready, report),
@@ -112,9 +108,7 @@ fn put_prepared(gate: &mut Gate, entry: Recorded, report: &mut Octets) -> Result
 
 /// Hands a gate an entry, unless it is refused or unsound.
 fn put_recorded(gate: &mut Gate, entry: Recorded, report: &mut Octets) -> Result<(), Memory>
-    requires whole { IsGate gate.old }
     requires spelled { IsEntry entry }
-    ensures { IsGate gate.new }
 {
     if let Err(refusal) = gate.check(&entry) {
         return put_refusal(report, refusal);
@@ -127,8 +121,6 @@ fn put_recorded(gate: &mut Gate, entry: Recorded, report: &mut Octets) -> Result
 
 /// Hands a gate the entry of an act.
 fn put_entry(alloc: Global, gate: &mut Gate, act: &[u8], report: &mut Octets) -> Result<(), Memory>
-    requires { IsGate gate.old }
-    ensures { IsGate gate.new }
 {
     let octets = entry_octets(alloc, act)?;
     match read_entry(alloc, octets.as_slice()) {
@@ -139,8 +131,6 @@ fn put_entry(alloc: Global, gate: &mut Gate, act: &[u8], report: &mut Octets) ->
 
 /// The message that a link takes.
 fn take(gate: &mut Gate, link: u32, now: u64) -> Option<u64>
-    requires { IsGate gate.old }
-    ensures { IsGate gate.new }
 {
     if now >= END_OF_TIME {
         return None;
@@ -156,8 +146,6 @@ fn take(gate: &mut Gate, link: u32, now: u64) -> Option<u64>
 
 /// Gives a message back that a link has taken.
 fn give_back(gate: &mut Gate, message: u64)
-    requires { IsGate gate.old }
-    ensures { IsGate gate.new }
 {
     if gate.leased(message) {
         gate.pass(Passing::Returned { message });
@@ -166,7 +154,6 @@ fn give_back(gate: &mut Gate, message: u64)
 
 /// Puts last which message a link takes next, and whether it is no longer worth sending.
 fn put_next(report: &mut Octets, gate: &Gate, link: u32, now: u64) -> Result<(), Memory>
-    requires { IsGate gate.now }
 {
     let message = gate.next_for(link, now);
     put_number(report, message)?;
@@ -178,8 +165,6 @@ fn put_next(report: &mut Octets, gate: &Gate, link: u32, now: u64) -> Result<(),
 
 /// Does an act, and puts last what it came to.
 fn put_act(alloc: Global, gate: &mut Gate, act: &[u8], report: &mut Octets) -> Result<(), Memory>
-    requires { IsGate gate.old }
-    ensures { IsGate gate.new }
 {
     let (kind, rest) = cut_at(act, b' ');
     let numbers = numbers_of(alloc, rest)?;
@@ -206,7 +191,6 @@ fn put_act(alloc: Global, gate: &mut Gate, act: &[u8], report: &mut Octets) -> R
 
 /// Does acts, and puts a bar behind what each came to.
 fn put_acts(alloc: Global, gate: Gate, acts: &[u8], report: &mut Octets) -> Result<(), Memory>
-    requires { IsGate gate }
 {
     let mut gate = gate;
     let mut rest = acts;
@@ -224,9 +208,7 @@ fn put_acts(alloc: Global, gate: Gate, acts: &[u8], report: &mut Octets) -> Resu
 
 /// The first link is up, where there is one, and where it is to be.
 fn with_link(gate: Gate, is_up: bool) -> Gate
-    requires whole { IsGate gate }
     requires down { (rest : ℕ) × ((model_of gate).up ≡ replicate rest false) }
-    ensures { IsGate result }
 {
     let mut gate = gate;
     if is_up && gate.rules().links.len() > 0 {

@@ -1,6 +1,5 @@
 //! A gate that is read from payloads.
 
-ghost use Rattle.gate_model.specs.Gate.{IsGate};
 ghost use Rattle.gate_model.specs.Loading.{gate_in};
 
 use crate::acts::put_totals;
@@ -18,8 +17,6 @@ fn put_payload(
     act: &[u8],
     report: &mut Octets,
 ) -> Result<bool, Memory>
-    requires { IsGate (gate_in loader.old) }
-    ensures { IsGate (gate_in loader.new) }
 {
     let octets = entry_octets(alloc, act)?;
     match loader.put(octets.as_slice()) {
@@ -40,7 +37,6 @@ fn put_payloads(
     acts: &[u8],
     report: &mut Octets,
 ) -> Result<(), Memory>
-    requires { IsGate (gate_in loader) }
 {
     let mut loader = loader;
     let mut rest = acts;

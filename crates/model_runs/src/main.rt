@@ -7,7 +7,8 @@
 //! `asked TIME MASK` accepts a message that asks for reports, `taken MESSAGE TIME` acknowledges one under the SMSC id `main` and the foreign id
 //! `A1`, and `report KIND TIME` reports under these. `reports` are the counts of reports, and `job` is the next job and its URL.
 //! `next LINK NOW`, `take LINK NOW`, `back MESSAGE`, `totals`. Where `load` stands in front of the line, a loader is handed the entries.
-//! Where `store` does, the acts are those of a store in memory: behind the head stand the numbers of the disk calls that fail, and `job` takes the job.
+//! Where `store` does, the acts are those of a store in memory: behind the head stand the numbers of the disk calls that fail, and `job` takes the
+//! job, and `arrival` the next message from a centre.
 #![tactic(auto)]
 
 mod acts;

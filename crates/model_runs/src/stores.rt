@@ -18,6 +18,7 @@ use gate_store::{Store, StoreFault, Taken};
 use kn_base::{Memory, Octets};
 use line_cases::{cut_at, cut_item, numbers_of, put_named};
 use route_rules::Rules;
+use sms_record::Sms;
 use std::alloc::Global;
 use store_disk::{Disk, MemDisk};
 
@@ -29,9 +30,9 @@ const BIRTH: u64 = 1;
 
 /// Has a store record an entry.
 fn record<D: Disk>(store: &mut Store<D>, entry: Recorded) -> Result<Reply, Refusal>
-    requires kept { IsOpen D.tells D.story store.old }
+    requires kept { IsOpen D.meaning store.old }
     requires may { MayRecord store.old entry }
-    ensures kept { IsOpen D.tells D.story store.new }
+    ensures kept { IsOpen D.meaning store.new }
     ensures ruled { rules_in store.new ≡ rules_in store.old }
 {
     store.perform(entry)
@@ -39,10 +40,10 @@ fn record<D: Disk>(store: &mut Store<D>, entry: Recorded) -> Result<Reply, Refus
 
 /// What a link is given that asks for its next message.
 fn take<D: Disk>(store: &mut Store<D>, link: u32, now: u64) -> Result<Option<Taken>, Refusal>
-    requires kept { IsOpen D.tells D.story store.old }
+    requires kept { IsOpen D.meaning store.old }
     requires time { now < 2 ^ 37 }
     requires ids { HaveIds (rules_in store.old) }
-    ensures kept { IsOpen D.tells D.story store.new }
+    ensures kept { IsOpen D.meaning store.new }
     ensures ruled { rules_in store.new ≡ rules_in store.old }
 {
     store.take_next(link, now)
@@ -50,18 +51,27 @@ fn take<D: Disk>(store: &mut Store<D>, link: u32, now: u64) -> Result<Option<Tak
 
 /// What is given that asks for the next job.
 fn take_job<D: Disk>(store: &mut Store<D>) -> Result<Option<(u64, Octets, u32)>, Memory>
-    requires kept { IsOpen D.tells D.story store.old }
-    ensures kept { IsOpen D.tells D.story store.new }
+    requires kept { IsOpen D.meaning store.old }
+    ensures kept { IsOpen D.meaning store.new }
     ensures ruled { rules_in store.new ≡ rules_in store.old }
 {
     store.take_job()
 }
 
+/// What is given that asks for the next arrival.
+fn take_arrival<D: Disk>(store: &mut Store<D>) -> Result<Option<(u64, Sms)>, Memory>
+    requires kept { IsOpen D.meaning store.old }
+    ensures kept { IsOpen D.meaning store.new }
+    ensures ruled { rules_in store.new ≡ rules_in store.old }
+{
+    store.take_arrival()
+}
+
 /// A link comes up.
 fn come_up<D: Disk>(store: &mut Store<D>, link: u32)
-    requires kept { IsOpen D.tells D.story store.old }
+    requires kept { IsOpen D.meaning store.old }
     requires may { MayPass (rules_in store.old) (state_in store.old) (Up link) }
-    ensures kept { IsOpen D.tells D.story store.new }
+    ensures kept { IsOpen D.meaning store.new }
     ensures ruled { rules_in store.new ≡ rules_in store.old }
 {
     store.pass(Passing::Up { link });
@@ -73,10 +83,10 @@ fn put_recorded<D: Disk>(
     entry: Recorded,
     report: &mut Octets,
 ) -> Result<(), Memory>
-    requires kept { IsOpen D.tells D.story store.old }
+    requires kept { IsOpen D.meaning store.old }
     requires ids { HaveIds (rules_in store.old) }
     requires spelled { IsEntry entry }
-    ensures kept { IsOpen D.tells D.story store.new }
+    ensures kept { IsOpen D.meaning store.new }
     ensures ids { HaveIds (rules_in store.new) }
 {
     if !store.state().suits(&entry) || entry_size(&entry) > MOST_PAYLOAD {
@@ -95,9 +105,9 @@ fn put_entry<D: Disk>(
     act: &[u8],
     report: &mut Octets,
 ) -> Result<(), Memory>
-    requires kept { IsOpen D.tells D.story store.old }
+    requires kept { IsOpen D.meaning store.old }
     requires ids { HaveIds (rules_in store.old) }
-    ensures kept { IsOpen D.tells D.story store.new }
+    ensures kept { IsOpen D.meaning store.new }
     ensures ids { HaveIds (rules_in store.new) }
 {
     let octets = entry_octets(alloc, act)?;
@@ -114,9 +124,9 @@ fn put_taken<D: Disk>(
     now: u64,
     report: &mut Octets,
 ) -> Result<(), Memory>
-    requires kept { IsOpen D.tells D.story store.old }
+    requires kept { IsOpen D.meaning store.old }
     requires ids { HaveIds (rules_in store.old) }
-    ensures kept { IsOpen D.tells D.story store.new }
+    ensures kept { IsOpen D.meaning store.new }
     ensures ids { HaveIds (rules_in store.new) }
 {
     if now >= END_OF_TIME {
@@ -132,9 +142,9 @@ fn put_taken<D: Disk>(
 
 /// Puts last what is given that asks for the next job: its number, how often it was given back, and its URL.
 fn put_job<D: Disk>(store: &mut Store<D>, report: &mut Octets) -> Result<(), Memory>
-    requires kept { IsOpen D.tells D.story store.old }
+    requires kept { IsOpen D.meaning store.old }
     requires ids { HaveIds (rules_in store.old) }
-    ensures kept { IsOpen D.tells D.story store.new }
+    ensures kept { IsOpen D.meaning store.new }
     ensures ids { HaveIds (rules_in store.new) }
 {
     match take_job(store) {
@@ -149,6 +159,20 @@ fn put_job<D: Disk>(store: &mut Store<D>, report: &mut Octets) -> Result<(), Mem
     }
 }
 
+/// Puts last the number of what is given that asks for the next arrival.
+fn put_arrival<D: Disk>(store: &mut Store<D>, report: &mut Octets) -> Result<(), Memory>
+    requires kept { IsOpen D.meaning store.old }
+    requires ids { HaveIds (rules_in store.old) }
+    ensures kept { IsOpen D.meaning store.new }
+    ensures ids { HaveIds (rules_in store.new) }
+{
+    match take_arrival(store) {
+        Ok(Some((arrival, _))) => put_named(report, b"arrival ", arrival),
+        Ok(None) => report.extend_from_slice(b"none"),
+        Err(Memory) => Err(Memory),
+    }
+}
+
 /// Does an act, and puts last what it came to.
 fn put_act<D: Disk>(
     alloc: Global,
@@ -156,9 +180,9 @@ fn put_act<D: Disk>(
     act: &[u8],
     report: &mut Octets,
 ) -> Result<(), Memory>
-    requires kept { IsOpen D.tells D.story store.old }
+    requires kept { IsOpen D.meaning store.old }
     requires ids { HaveIds (rules_in store.old) }
-    ensures kept { IsOpen D.tells D.story store.new }
+    ensures kept { IsOpen D.meaning store.new }
     ensures ids { HaveIds (rules_in store.new) }
 {
     let (kind, rest) = cut_at(act, b' ');
@@ -168,6 +192,8 @@ fn put_act<D: Disk>(
         put_report_totals(report, store.totals())
     } else if kind == b"job".as_slice() {
         put_job(store, report)
+    } else if kind == b"arrival".as_slice() {
+        put_arrival(store, report)
     } else if kind == b"take".as_slice() {
         let numbers = numbers_of(alloc, rest)?;
         let link = nth(numbers.as_slice(), 0).min(100) as u32;
@@ -184,7 +210,7 @@ fn put_acts<D: Disk>(
     acts: &[u8],
     report: &mut Octets,
 ) -> Result<(), Memory>
-    requires kept { IsOpen D.tells D.story store.old }
+    requires kept { IsOpen D.meaning store.old }
     requires ids { HaveIds (rules_in store.old) }
 {
     let mut rest = acts;
@@ -207,7 +233,7 @@ fn put_and_close<D: Disk + Drop>(
     acts: &[u8],
     report: &mut Octets,
 ) -> Result<(), Memory>
-    requires kept { IsOpen D.tells D.story store }
+    requires kept { IsOpen D.meaning store }
     requires ids { HaveIds (rules_in store) }
 {
     let mut store = store;
@@ -223,7 +249,7 @@ fn put_opened<D: Disk + Drop>(
     acts: &[u8],
     report: &mut Octets,
 ) -> Result<(), Memory>
-    requires kept { IsOpen D.tells D.story store }
+    requires kept { IsOpen D.meaning store }
     requires down { settle (state_in store) ≡ state_in store }
     requires ids { HaveIds (rules_in store) }
 {

@@ -5,11 +5,12 @@ use Rattle.std.specs.List.{cons_option, HoldsAt}
 use Rattle.std.specs.List.Sorted.{IsNonDecreasingBy, IsPartitionPoint}
 use Rattle.std.proofs.lemmas.Bool.{cases_lt, cases_order, ltb-true, ltb-false}
 use Rattle.std.proofs.lemmas.Option.{none-some}
-use Rattle.std.proofs.lemmas.List.{length-append, length-set, take-append-drop, take-set, drop-set, drop_more, length-take-le, get_or-take, get_or-drop, get_or-set_other, get_or_default, get_or_append_left, set-get_or, length-take, length-drop, append-nil, map-append}
+use Rattle.std.proofs.lemmas.List.{length-append, length-set, take-append-drop, take-set, drop-set, drop_more, length-take-le, get_or-take, get_or-drop, get_or-set_other, get_or-set_same, get_or_default, get_or_append_left, set-get_or, length-take, length-drop, append-nil, map-append}
+use Rattle.std.proofs.Math.Seq.{get_or-append_seam}
 use Rattle.std.proofs.lemmas.List.Elements.{All-nil, All-cons, All-head, All-tail, All-push, All-filter, All-set, filter_map-append, filter-append}
 use Rattle.numbered_table.specs.declared.row.Row.{Row}
 use Rattle.numbered_table.specs.Pairs.{Numbered, value_under, without, with_value, AllBelow, IsAscending}
-use Rattle.numbered_table.specs.Rows.{pair_of, pairs_of, Ascend, AreEmpty, AreKept}
+use Rattle.numbered_table.specs.Rows.{pair_of, pairs_of, Ascend, AreEmpty, IsLive, AreCounted, AreKept}
 use Rattle.numbered_table.proofs.PairLists.{AreApart, AreApart-from_below, AreApart-from_above, value_under_behind, value_under_between, value_under-apart, without_between, without-apart, with_value_between, with_value-apart}
 
 at_place : (P : ℕ → Type 0) (answer : Option ℕ) (place : ℕ) → answer ≡ Some place → IfSome answer P → P place
@@ -137,6 +138,21 @@ module _ {T : Type 0} where
       let rest = no_pairs rows (All-tail (λ row. row.value ≡ None) row rows empty) in
       ap (λ value. with_place row.number value (pairs_of rows)) here ∙ rest
 
+  -- places that all are live
+  pub full_kept : (rows : List (Row T)) → Ascend rows → length (pairs_of rows) ≡ length rows → AreKept rows 0 0
+  full_kept rows ascend full = record {
+    places = record { ascend = ascend; within = omega arith; leading = λ k d from inside. absurd (omega (arith, inside)); counted = omega (arith, full) };
+    first = λ inside. first_full rows full inside;
+    half = omega arith;
+  } where
+    first_full : (rows : List (Row T)) → length (pairs_of rows) ≡ length rows → 0 < length rows → IsLive rows 0
+    first_full [] full inside d = absurd (omega (arith, inside))
+    first_full (row ∷ rows) full inside d = some_full row.number row.value (pairs_of rows) (length rows) (length-pairs rows) full
+      where
+        some_full : (number : ℕ) (value : Option T) (pairs : List (ℕ × T)) (n : ℕ) → length pairs ≤ n → length (with_place number value pairs) ≡ suc n → IsSome value
+        some_full number None pairs n less full = absurd (omega (arith, less, full))
+        some_full number (Some value) pairs n less full = refl
+
   -- ---- one place among others
 
   abbrev front_pairs : List (Row T) → ℕ → List (ℕ × T)
@@ -242,6 +258,17 @@ module _ {T : Type 0} where
     still_leading first_live new behind empty k d from inside =
         ap (λ r. r.value) (get_or-set_other rows place k new d (λ same. omega (arith, same, behind, inside))) ∙ empty k d from inside
 
+    still_live : (other : ℕ) (new : Row T) → IsSome new.value → IsLive rows other → IsLive (slice_set rows place new) other
+    still_live other new some live d =
+        elim (cases_order other place) [
+          | inl same ↦
+              let here : get_or (slice_set rows place new) place d ≡ new = get_or-set_same rows place new d within in
+              subst (λ n. IsSome (get_or (slice_set rows place new) n d).value) (sym same) (subst (λ r. IsSome r.value) (sym here) some)
+          | inr apart ↦
+              let differ : other ≢ place = λ same. elim apart [ inl before ↦ omega (arith, same, before) | inr behind ↦ omega (arith, same, behind) ] in
+              subst (λ r. IsSome r.value) (sym (get_or-set_other rows place other new d differ)) (live d)
+        ]
+
     -- the places are kept where another value comes to one
     pub kept_changed : (first_live empties : ℕ) (was value : T) → row.value ≡ Some was → AreKept rows first_live empties
         → AreKept (slice_set rows place (record { number = row.number; value = Some value })) first_live empties
@@ -255,15 +282,19 @@ module _ {T : Type 0} where
         after ∙ length-append (front_pairs rows place) ((row.number, value) ∷ back_pairs rows place) ∙ sym (before ∙ length-append (front_pairs rows place) ((row.number, was) ∷ back_pairs rows place)) in
         let long : length (slice_set rows place new) ≡ length rows = length-set rows place new in
         record {
-          ascend = Ascend-set rows place new within same_number ascend;
-          within = omega (arith, long, kept.within);
-          leading = still_leading first_live new (behind_leading first_live was holds kept.leading) kept.leading;
-          counted = omega (arith, long, counted, kept.counted);
+          places = record {
+            ascend = Ascend-set rows place new within same_number ascend;
+            within = omega (arith, long, kept.places.within);
+            leading = still_leading first_live new (behind_leading first_live was holds kept.places.leading) kept.places.leading;
+            counted = omega (arith, long, counted, kept.places.counted);
+          };
+          first = λ inside. still_live first_live new refl (kept.first (omega (arith, long, inside)));
+          half = omega (arith, long, kept.half);
         }
 
     -- the places are kept where a value goes, and one more is empty
-    pub kept_taken : (first_live empties : ℕ) (was : T) → row.value ≡ Some was → AreKept rows first_live empties
-        → AreKept (slice_set rows place (record { number = row.number; value = None })) first_live (empties + 1)
+    pub kept_taken : (first_live empties : ℕ) (was : T) → row.value ≡ Some was → AreCounted rows first_live empties
+        → AreCounted (slice_set rows place (record { number = row.number; value = None })) first_live (empties + 1)
     kept_taken first_live empties was holds kept =
         let new : Row T = record { number = row.number; value = None } in
         let before : length (pairs_of rows) ≡ length (front_pairs rows place ++ (row.number, was) ∷ back_pairs rows place) =
@@ -332,12 +363,12 @@ module _ {T : Type 0} where
         filter_map-append pair_of (take end rows) (record { number = number; value = Some value } ∷ []) ∙ ap (λ xs. xs ++ (number, value) ∷ []) (pairs_until rows end empty)
 
     -- the empty places at the end are among those counted
-    pub enough : (first_live empties : ℕ) → AreKept rows first_live empties → length rows - end ≤ empties
+    pub enough : (first_live empties : ℕ) → AreCounted rows first_live empties → length rows - end ≤ empties
     enough first_live empties kept =
         let few : length (pairs_of rows) ≤ length (take end rows) = subst (λ xs. length xs ≤ length (take end rows)) (pairs_until rows end empty) (length-pairs (take end rows)) in
         omega (arith, few, length-take-le end rows within, kept.counted)
 
-    ends_live : (0 < end → HoldsAt (λ row. IsSome row.value) rows (end - 1)) → EndsLive (take end rows)
+    ends_live : (0 < end → IsLive rows (end - 1)) → EndsLive (take end rows)
     ends_live live k d is =
         let at : suc k ≡ end = is ∙ length-take-le end rows within in
         let here : IsSome (get_or rows (end - 1) d).value = live (omega (arith, at)) d in
@@ -345,27 +376,48 @@ module _ {T : Type 0} where
         let read : IsSome (get_or rows k d).value = subst (λ n. IsSome (get_or rows n d).value) place here in
         subst (λ r. IsSome r.value) (sym (get_or-take end rows k d (omega (arith, at)))) read
 
-    pub kept_pushed : (first_live empties number : ℕ) (value : T) → (0 < end → HoldsAt (λ row. IsSome row.value) rows (end - 1)) → AllBelow number (pairs_of rows)
+    first_pushed : (first_live : ℕ) (new : Row T) → IsSome new.value → (first_live < length rows → IsLive rows first_live)
+        → IsLive (take end rows ++ new ∷ []) (min first_live end)
+    first_pushed first_live new some first d =
+        let short : length (take end rows) ≡ end = length-take-le end rows within in
+        elim (cases_lt first_live end) [
+          | inl early ↦
+              let least : min first_live end ≡ first_live = omega (arith, early) in
+              let there : get_or (take end rows ++ new ∷ []) first_live d ≡ get_or rows first_live d =
+              get_or_append_left (take end rows) (new ∷ []) d first_live (omega (arith, short, early)) ∙ get_or-take end rows first_live d early in
+              subst (λ n. IsSome (get_or (take end rows ++ new ∷ []) n d).value) (sym least)
+              (subst (λ r. IsSome r.value) (sym there) (first (omega (arith, early, within)) d))
+          | inr late ↦
+              let least : min first_live end ≡ length (take end rows) = omega (arith, late, short) in
+              subst (λ n. IsSome (get_or (take end rows ++ new ∷ []) n d).value) (sym least)
+              (subst (λ r. IsSome r.value) (sym (get_or-append_seam (take end rows) new [] d)) some)
+        ]
+
+    pub kept_pushed : (first_live empties number : ℕ) (value : T) → (0 < end → IsLive rows (end - 1)) → AllBelow number (pairs_of rows)
         → AreKept rows first_live empties
         → AreKept (take end rows ++ record { number = number; value = Some value } ∷ []) (min first_live end) (empties - (length rows - end))
     kept_pushed first_live empties number value live below kept =
         let new : Row T = record { number = number; value = Some value } in
         let short : length (take end rows) ≡ end = length-take-le end rows within in
         let pairs : pairs_of (take end rows) ≡ pairs_of rows = pairs_until rows end empty in
-        let ascend : Ascend (take end rows) = Ascend-front (take end rows) (drop end rows) (subst Ascend (sym (take-append-drop end rows)) kept.ascend) in
+        let ascend : Ascend (take end rows) = Ascend-front (take end rows) (drop end rows) (subst Ascend (sym (take-append-drop end rows)) kept.places.ascend) in
         let less : All (Below number) (take end rows) = all_below number (take end rows) ascend (ends_live live) (subst (AllBelow number) (sym pairs) below) in
         let long : length (take end rows ++ new ∷ []) ≡ end + 1 = length-append (take end rows) (new ∷ []) ∙ ap (λ n. n + 1) short in
         let count : length (pairs_of (take end rows ++ new ∷ [])) ≡ length (pairs_of rows) + 1 =
         ap length (pairs_pushed number value) ∙ length-append (pairs_of rows) ((number, value) ∷ []) in
-        let fits : length rows - end ≤ empties = enough first_live empties kept in
+        let fits : length rows - end ≤ empties = enough first_live empties kept.places in
         record {
-          ascend = Ascend-push (take end rows) new ascend less;
-          within = omega (arith, long);
-          leading = λ k d from inside.
-              let early : k < end = omega (arith, inside) in
-              let first : k < first_live = omega (arith, inside) in
-              ap (λ r. r.value) (get_or_append_left (take end rows) (new ∷ []) d k (omega (arith, short, early)) ∙ get_or-take end rows k d early) ∙ kept.leading k d from first;
-          counted = omega (arith, long, count, fits, within, kept.counted);
+          places = record {
+            ascend = Ascend-push (take end rows) new ascend less;
+            within = omega (arith, long);
+            leading = λ k d from inside.
+                let early : k < end = omega (arith, inside) in
+                let first : k < first_live = omega (arith, inside) in
+                ap (λ r. r.value) (get_or_append_left (take end rows) (new ∷ []) d k (omega (arith, short, early)) ∙ get_or-take end rows k d early) ∙ kept.places.leading k d from first;
+            counted = omega (arith, long, count, fits, within, kept.places.counted);
+          };
+          first = λ inside. first_pushed first_live new refl kept.first;
+          half = omega (arith, long, fits, within, kept.half);
         }
 
   -- ---- where a number is sought
@@ -435,10 +487,10 @@ module _ {T : Type 0} where
         → AreKept (slice_set rows place (record { number = row.number; value = Some value })) first_live empties
     found_kept_changed first_live empties was value some kept = kept_changed rows place row ascend inside is first_live empties was value (sym some) kept
 
-    pub found_kept_taken : (left : Option T) → left ≡ None → (first_live empties : ℕ) (was : T) → Some was ≡ row.value → AreKept rows first_live empties
-        → AreKept (slice_set rows place (record { number = row.number; value = left })) first_live (empties + 1)
+    pub found_kept_taken : (left : Option T) → left ≡ None → (first_live empties : ℕ) (was : T) → Some was ≡ row.value → AreCounted rows first_live empties
+        → AreCounted (slice_set rows place (record { number = row.number; value = left })) first_live (empties + 1)
     found_kept_taken left none first_live empties was some kept =
-        subst (λ v. AreKept (slice_set rows place (record { number = row.number; value = v })) first_live (empties + 1)) (sym none)
+        subst (λ v. AreCounted (slice_set rows place (record { number = row.number; value = v })) first_live (empties + 1)) (sym none)
         (kept_taken rows place row ascend inside is first_live empties was (sym some) kept)
 
   module _ (number : ℕ) (slice rows : List (Row T)) (same : slice ≡ rows) (absent : All (λ row. row.number ≢ number) slice) where
@@ -457,9 +509,9 @@ module _ {T : Type 0} where
   -- ---- the places after a push, where an end was found
 
   module _ (slice rows : List (Row T)) (end len : ℕ) (same : slice ≡ rows) (long : len ≡ length slice) (within : end ≤ length slice) (empty : AreEmpty slice end (length slice)) where
-    pub push_fits : (first_live empties : ℕ) → AreKept rows first_live empties → len - end ≤ empties
+    pub push_fits : (first_live empties : ℕ) → AreCounted rows first_live empties → len - end ≤ empties
     push_fits first_live empties kept =
-        let few = enough slice end within empty first_live empties (subst (λ xs. AreKept xs first_live empties) (sym same) kept) in
+        let few = enough slice end within empty first_live empties (subst (λ xs. AreCounted xs first_live empties) (sym same) kept) in
         omega (arith, few, long)
 
     after_is : (cut after : List (Row T)) (new : Row T) → cut ≡ take end rows → after ≡ cut ++ new ∷ [] → after ≡ take end slice ++ new ∷ []
@@ -472,7 +524,7 @@ module _ {T : Type 0} where
         ∙ ap (λ xs. pairs_of xs ++ (number, value) ∷ []) same
 
     pub push_kept : (number : ℕ) (value : T) (cut after : List (Row T)) → cut ≡ take end rows → after ≡ cut ++ record { number = number; value = Some value } ∷ []
-        → (first_live empties least : ℕ) → least ≡ min first_live end → (0 < end → HoldsAt (λ row. IsSome row.value) slice (end - 1)) → AllBelow number (pairs_of rows)
+        → (first_live empties least : ℕ) → least ≡ min first_live end → (0 < end → IsLive slice (end - 1)) → AllBelow number (pairs_of rows)
         → AreKept rows first_live empties → AreKept after least (empties - (len - end))
     push_kept number value cut after cut_is put first_live empties least least_is live below kept =
         let kept' : AreKept slice first_live empties = subst (λ xs. AreKept xs first_live empties) (sym same) kept in

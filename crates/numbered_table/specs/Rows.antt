@@ -1,6 +1,6 @@
 -- The places of a table, of which some are empty.
-use Rattle.std.specs.Prelude.{◌≡◌, ℕ, ◌+◌, ◌<◌, ◌≤◌, ⊤, List, [], ◌∷◌, length, Option, None, option_map, All}
-use Rattle.std.specs.List.{AllWithin, filter_map}
+use Rattle.std.specs.Prelude.{◌≡◌, ℕ, ◌+◌, ◌<◌, ◌≤◌, ⊤, List, [], ◌∷◌, length, Option, None, IsSome, option_map, All}
+use Rattle.std.specs.List.{AllWithin, HoldsAt, filter_map}
 use Rattle.numbered_table.specs.declared.row.Row.{Row}
 
 module _ {T : Type 0} where
@@ -21,9 +21,19 @@ module _ {T : Type 0} where
   abbrev pub AreEmpty : List (Row T) → ℕ → ℕ → Type 0
   AreEmpty rows from end = AllWithin (λ row. row.value ≡ None) rows from end
 
-  -- The places of a table: those before the first live one are empty, and so many are empty in all.
-  pub record AreKept (rows : List (Row T)) (first_live empties : ℕ) : Type 0 where
+  -- a value stands at a place
+  abbrev pub IsLive : List (Row T) → (place : ℕ) → Type 0
+  IsLive rows place = HoldsAt (λ row. IsSome row.value) rows place
+
+  -- Places in the order of their numbers: so many in front are empty, and so many in all.
+  pub record AreCounted (rows : List (Row T)) (front empties : ℕ) : Type 0 where
     pub ascend : Ascend rows
-    pub within : first_live ≤ length rows
-    pub leading : AreEmpty rows 0 first_live
+    pub within : front ≤ length rows
+    pub leading : AreEmpty rows 0 front
     pub counted : empties + length (pairs_of rows) ≡ length rows
+
+  -- The places of a table: they are counted, the first behind the empty ones in front is live, and at most half of them are empty.
+  pub record AreKept (rows : List (Row T)) (first_live empties : ℕ) : Type 0 where
+    pub places : AreCounted rows first_live empties
+    pub first : first_live < length rows → IsLive rows first_live
+    pub half : empties + empties ≤ length rows

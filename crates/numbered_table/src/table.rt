@@ -7,7 +7,7 @@ ghost use Rattle.numbered_table.specs.Pairs.{value_under, without, with_value, A
 ghost use Rattle.numbered_table.specs.Rows.{pairs_of};
 
 use crate::Row;
-use crate::rows::{live_end, live_from, place_of, take_empty_out};
+use crate::rows::{live_end, place_of, settle, take_empty_out};
 use kn_base::Memory;
 use std::alloc::Global;
 use std::marker::Model;
@@ -19,9 +19,9 @@ use std::mem::replace;
 pub struct Table<T> {
     /// The places in the order of their numbers. A value that was taken out leaves an empty one.
     rows: Vec<Row<T>>,
-    /// How many empty places stand in front.
+    /// How many empty places stand in front. Behind them comes a live one, if any does.
     first_live: usize,
-    /// How many places are empty.
+    /// How many places are empty: at most half.
     empties: usize,
 }
 
@@ -139,8 +139,9 @@ impl<T: Drop> Table<T> {
     {
         let place = place_of(self.rows.as_slice(), number)?;
         let value = self.rows[place].value.take()?;
-        self.empties += 1;
-        self.settle();
+        let (first_live, empties) = settle(&mut self.rows, self.first_live, self.empties + 1);
+        self.first_live = first_live;
+        self.empties = empties;
         Some(value)
     }
 
@@ -152,18 +153,6 @@ impl<T: Drop> Table<T> {
     {
         let place = place_of(self.rows.as_slice(), number).unwrap();
         self.rows[place].value.as_mut().unwrap()
-    }
-
-    // Moves the places together where more than half are empty, and else only finds the first live one.
-    fn settle(&mut self)
-        ensures pairs { self.new.pairs ≡ self.old.pairs }
-        ensures room { self.old.room ≤ self.new.room }
-    {
-        if self.empties > self.rows.len() / 2 {
-            self.move_together();
-        } else {
-            self.first_live = live_from(self.rows.as_slice(), self.first_live);
-        }
     }
 
     // Takes the empty places out.

@@ -1,12 +1,12 @@
 -- The calls of a disk in memory are numbered.
-use Rattle.std.proofs.Common.{◌≡◌, inl, inr, ◌⊎◌, ⊎_elim, ℕ, ◌+◌, ◌≤◌, ◌<◌, Bool, true, false, ◌==◌, ◌&&◌, ◌||◌, cond, nat_lt, List, [], ◌∷◌, length, refl, sym, ◌∙◌, ap, subst, arith}
-use Rattle.std.specs.Prelude.{if◌then◌else◌, nat_eq}
+use Rattle.std.proofs.Common.{◌≡◌, inl, inr, ℕ, ◌+◌, ◌≤◌, ◌<◌, Bool, true, false, ◌==◌, ◌&&◌, ◌||◌, cond, List, [], ◌∷◌, length, refl, sym, ◌∙◌, ap, subst, arith}
+use Rattle.std.specs.Prelude.{if◌then◌else◌}
 use Rattle.std.proofs.lemmas.Bool.{le-ltb, lt-ltb, eq-eqb, ne_eqb}
 use Rattle.std.proofs.Math.Bool.{and-true}
 use Rattle.std.specs.List.{AllByRecursion}
 use Rattle.kn_base.specs.Count.{last_count, next_count}
 use Rattle.store_disk.specs.MemDisk.{mem_calls, mem_log}
-use Rattle.store_disk.specs.Stop.{moment_at, is_later, is_synced, IsNumbered, NotesOne, NumbersCall}
+use Rattle.store_disk.specs.Stop.{moment_at, is_later, is_synced, NotesOne, NumbersCall}
 use Rattle.store_disk.specs.declared.entry.Entry.{Entry}
 use Rattle.store_disk.specs.declared.mem_disk.MemDisk.{MemDisk}
 

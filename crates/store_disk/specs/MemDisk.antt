@@ -1,7 +1,9 @@
 -- What a disk in memory holds and has counted, and the story that its log tells.
-use Rattle.std.specs.Prelude.{ℕ, List, [], ◌∷◌, ◌++◌, ◌+◌, take, drop, reverse}
-use Rattle.kn_base.specs.Calls.{Calls}
+use Rattle.std.specs.Prelude.{◌⊎◌, ℕ, true, List, [], ◌∷◌, ◌++◌, ◌+◌, take, drop, reverse}
+use Rattle.kn_base.specs.Calls.{Calls, IsFailing}
+use Rattle.kn_base.specs.Count.{Rose}
 use Rattle.store_disk.specs.Disk.{Areas, octets_of, with_octets}
+use Rattle.store_disk.specs.Meaning.{Meaning}
 use Rattle.store_disk.specs.Story.{Act, Story, wrote, cut, synced, tell, untold}
 use Rattle.store_disk.specs.declared.area.Area.{Area}
 use Rattle.store_disk.specs.declared.entry.Deed.{Deed}
@@ -25,9 +27,13 @@ mem_calls disk = disk.calls
 abbrev pub mem_faults : MemDisk → ℕ
 mem_faults disk = disk.faults
 
--- how many of them found no memory for their entry in the log
+-- how many of them found no memory
 abbrev pub mem_starved : MemDisk → ℕ
 mem_starved disk = disk.starved
+
+-- a call failed because it was to fail, or found no memory
+abbrev pub HasCause : (old new : MemDisk) → Type 0
+HasCause old new = IsFailing (mem_calls old) ⊎ Rose (mem_starved old) (mem_starved new)
 
 -- the octets of an area before a deed, from those behind it
 abbrev pub octets_before : Deed → List ℕ → List ℕ
@@ -53,6 +59,10 @@ told (entry ∷ log) areas = tell (act_of entry.area entry.deed (octets_of areas
 -- the story of a disk
 abbrev pub mem_story : MemDisk → Story
 mem_story disk = told (mem_log disk) (mem_areas disk)
+
+-- what it means
+abbrev pub mem_meaning : Meaning MemDisk
+mem_meaning = record { tells = true; story = mem_story; faults = mem_faults; calls = λ disk. (mem_calls disk).made }
 
 -- the entry of a write over areas as they are before it, and of a cut that leaves so many octets
 abbrev pub write_entry : ℕ → Area → ℕ → ℕ → Areas → Entry

@@ -4,31 +4,31 @@ ghost use Rattle.std.specs.Prelude.{◌≡◌, IfOk, IsErr, MatchResult};
 ghost use Rattle.store_disk.specs.Disk.{CountsCall};
 
 use crate::disk::ends_late;
-use crate::host_file::HostFile;
+use crate::host_file::{HostFile, Lock};
 use crate::{Area, Disk, DiskFailed};
 use kn_base::{Memory, raised};
 use std::alloc::Global;
-use std::fs::{File, Files};
-use std::io;
+use std::fs::{Files, OpenFile};
+use std::io::{self, Read, Seek, Write};
 
 // The files of the three areas.
 #[derive(Drop)]
-struct HostFiles {
-    a: HostFile,
-    b: HostFile,
-    pick: HostFile,
+struct HostFiles<F> {
+    a: HostFile<F>,
+    b: HostFile<F>,
+    pick: HostFile<F>,
 }
 
-// The files of the two areas of payloads.
-fn payload_files(alloc: Global, name: &[u8]) -> Result<(HostFile, HostFile), Memory> {
-    let a = HostFile::new(alloc, name, b".a")?;
-    Ok((a, HostFile::new(alloc, name, b".b")?))
-}
+impl<F: Read + Write + Seek + OpenFile + Lock + Drop> HostFiles<F> {
+    // The files of the two areas of payloads.
+    fn of_payloads(alloc: Global, name: &[u8]) -> Result<(HostFile<F>, HostFile<F>), Memory> {
+        let a = HostFile::new(alloc, name, b".a")?;
+        Ok((a, HostFile::new(alloc, name, b".b")?))
+    }
 
-impl HostFiles {
     // The files of a name, none of which is opened.
-    fn new(alloc: Global, name: &[u8]) -> Result<HostFiles, Memory> {
-        let (a, b) = payload_files(alloc, name)?;
+    fn new(alloc: Global, name: &[u8]) -> Result<HostFiles<F>, Memory> {
+        let (a, b) = HostFiles::of_payloads(alloc, name)?;
         Ok(HostFiles {
             a,
             b,
@@ -37,7 +37,7 @@ impl HostFiles {
     }
 
     // The file of an area.
-    fn of(&mut self, area: Area) -> &mut HostFile {
+    fn of(&mut self, area: Area) -> &mut HostFile<F> {
         match area {
             Area::A => &mut self.a,
             Area::B => &mut self.b,
@@ -51,21 +51,25 @@ impl HostFiles {
 /// another disk holds fails, since two of them would write over each other's entries. The first sync of an
 /// area also syncs the folder that names its file, without which a file that was made in this run could be
 /// gone after a power cut. Each error is counted.
+/// Where files come from is given, so that a file system of a script can stand in.
 #[derive(Drop)]
-pub struct HostDisk<R: Files<File = File>> {
+pub struct HostDisk<R: Files> {
     rt: R,
-    files: HostFiles,
+    files: HostFiles<R::File>,
     calls: u64,
     faults: u64,
 }
 
-impl<R: Files<File = File>> HostDisk<R> {
+impl<R: Files> HostDisk<R>
+where
+    R::File: Lock,
+{
     /// The disk of a name. It opens no file. Where the name isn't UTF-8 each call fails.
     pub fn new(alloc: Global, rt: R, name: &[u8]) -> Result<HostDisk<R>, Memory>
     where
         R: Drop,
-        ensures calls { IfOk result (λ disk. ⟦<HostDisk<R> as Disk>⟧.calls disk ≡ 0) }
-        ensures faults { IfOk result (λ disk. ⟦<HostDisk<R> as Disk>⟧.faults disk ≡ 0) }
+        ensures calls { IfOk result (λ disk. ⟦<HostDisk<R> as Disk>⟧.meaning.calls disk ≡ 0) }
+        ensures faults { IfOk result (λ disk. ⟦<HostDisk<R> as Disk>⟧.meaning.faults disk ≡ 0) }
     {
         Ok(HostDisk {
             rt,
@@ -91,18 +95,15 @@ impl<R: Files<File = File>> HostDisk<R> {
     }
 }
 
-impl<R: Files<File = File>> Disk for HostDisk<R> {
+impl<R: Files> Disk for HostDisk<R>
+where
+    R::File: Lock,
+{
     ghost use Rattle.store_disk.specs.Disk.{no_areas};
     ghost use Rattle.store_disk.specs.Story.{untold};
     ghost use Rattle.std.specs.Prelude.{false};
 
-    ghost tells = { false };
-
-    ghost story = { λ _. untold no_areas };
-
-    ghost faults = { λ disk. disk.faults };
-
-    ghost calls = { λ disk. disk.calls };
+    ghost meaning = { record { tells = false; story = λ _. untold no_areas; faults = λ disk. disk.faults; calls = λ disk. disk.calls } };
 
     fn size(&mut self, area: Area) -> Result<u64, DiskFailed> {
         let done = self.files.of(area).size(&self.rt);

@@ -19,4 +19,5 @@ mod mem_stop;
 pub use area::Area;
 pub use disk::{Disk, DiskFailed, LAST_END};
 pub use host_disk::HostDisk;
+pub use host_file::Lock;
 pub use mem_disk::MemDisk;

@@ -3,7 +3,8 @@
 ghost use Rattle.std.specs.Prelude.{◌≡◌, ◌+◌, ◌≤◌, ◌∷◌, ◌↔◌, false, length, take, IfOk, OnOk, OnErr, IsErr};
 ghost use Rattle.kn_base.specs.Calls.{IsFailing, one_more};
 ghost use Rattle.kn_base.specs.Count.{next_count};
-ghost use Rattle.store_disk.specs.Disk.{CountsCall, IsWithin, last_end};
+ghost use Rattle.store_disk.specs.Disk.{IsWithin, last_end};
+ghost use Rattle.store_disk.specs.Meaning.{Counts};
 
 use crate::disk::ends_late;
 use crate::entry::{Deed, Entry};
@@ -14,8 +15,8 @@ use kn_base::{MemCalls, Memory, Octets, raised};
 use std::alloc::Global;
 
 /// Three areas in memory. The calls whose numbers, from 0, are in the list of failing ones fail, and leave what the
-/// areas hold. Want of memory is a counted fault. A write or a cut that failed is told as one that failed, unless it found no memory
-/// for its entry in the log.
+/// areas hold. Want of memory is a counted fault, and nothing else but these and
+/// `LAST_END` makes a call fail. A write or a cut that failed is told as one that failed, unless it found no memory for its entry in the log.
 #[derive(Drop)]
 pub struct MemDisk {
     alloc: Global,
@@ -183,6 +184,7 @@ impl MemDisk {
     fn note(&mut self, entry: Entry) -> Result<(), Memory>
         ensures ok { OnOk result (mem_log self.new ≡ entry ∷ mem_log self.old) }
         ensures err { OnErr result (mem_log self.new ≡ mem_log self.old) }
+        ensures unstarved { OnOk result (mem_starved self.new ≡ mem_starved self.old) }
         ensures starved { OnErr result (Rose (mem_starved self.old) (mem_starved self.new)) }
         ensures areas { mem_areas self.new ≡ mem_areas self.old }
         ensures calls { mem_calls self.new ≡ mem_calls self.old }
@@ -195,6 +197,7 @@ impl MemDisk {
     // Counts want of memory where an entry isn't noted.
     fn noted(&mut self, done: bool) -> Result<(), Memory>
         ensures done { IsOk result ↔ (done ≡ true) }
+        ensures unstarved { OnOk result (mem_starved self.new ≡ mem_starved self.old) }
         ensures starved { OnErr result (Rose (mem_starved self.old) (mem_starved self.new)) }
         ensures log { mem_log self.new ≡ mem_log self.old }
         ensures areas { mem_areas self.new ≡ mem_areas self.old }
@@ -213,6 +216,7 @@ impl MemDisk {
         requires { IsWithin (mem_areas self.old) area at }
         ensures ok { OnOk result (mem_log self.new ≡ write_entry call area at count (mem_areas self.old) ∷ mem_log self.old) }
         ensures err { OnErr result (mem_log self.new ≡ mem_log self.old) }
+        ensures unstarved { OnOk result (mem_starved self.new ≡ mem_starved self.old) }
         ensures starved { OnErr result (Rose (mem_starved self.old) (mem_starved self.new)) }
         ensures areas { mem_areas self.new ≡ mem_areas self.old }
         ensures calls { mem_calls self.new ≡ mem_calls self.old }
@@ -232,6 +236,7 @@ impl MemDisk {
         requires { IsWithin (mem_areas self.old) area left }
         ensures ok { OnOk result (mem_log self.new ≡ cut_entry call area size left (mem_areas self.old) ∷ mem_log self.old) }
         ensures err { OnErr result (mem_log self.new ≡ mem_log self.old) }
+        ensures unstarved { OnOk result (mem_starved self.new ≡ mem_starved self.old) }
         ensures starved { OnErr result (Rose (mem_starved self.old) (mem_starved self.new)) }
         ensures areas { mem_areas self.new ≡ mem_areas self.old }
         ensures calls { mem_calls self.new ≡ mem_calls self.old }
@@ -251,6 +256,7 @@ impl MemDisk {
         requires { IsWithin (mem_areas self.old) area at }
         ensures ok { OnOk result (mem_areas self.new ≡ after_write area at bytes.now (mem_areas self.old)) }
         ensures err { OnErr result (mem_areas self.new ≡ mem_areas self.old) }
+        ensures starved { mem_starved self.new ≡ mem_starved self.old }
         ensures log { mem_log self.new ≡ mem_log self.old }
         ensures calls { mem_calls self.new ≡ mem_calls self.old }
         ensures faults { mem_faults self.new ≡ mem_faults self.old }
@@ -297,7 +303,7 @@ impl MemDisk {
 impl MemDisk {
     ghost use Rattle.std.specs.Prelude.{◌⊎◌, true, IsTrue};
     ghost use Rattle.store_disk.specs.Stop.{NotesOne, NumbersCall};
-    ghost use Rattle.store_disk.specs.MemDisk.{mem_areas, mem_calls, mem_faults, mem_log, mem_starved, mem_story};
+    ghost use Rattle.store_disk.specs.MemDisk.{mem_areas, mem_calls, mem_faults, mem_log, mem_meaning, mem_starved, mem_story};
     ghost use Rattle.kn_base.specs.Count.{Rose, last_count};
     ghost use Rattle.store_disk.specs.Story.{Cuts, FailsToCut, FailsToWrite, Syncs, Writes};
 
@@ -315,6 +321,7 @@ impl MemDisk {
         ensures told { OnErr result (FailsToWrite area at bytes.now (mem_story self.old) (mem_story self.new) ⊎ Rose (mem_starved self.old) (mem_starved self.new)) }
         ensures noted { NotesOne false call (mem_log self.old) (mem_log self.new) }
         ensures due { OnOk result (fails ≡ false) }
+        ensures cause { OnErr result ((fails ≡ true) ⊎ Rose (mem_starved self.old) (mem_starved self.new)) }
         ensures unwritten { OnErr result (mem_areas self.new ≡ mem_areas self.old) }
         ensures calls { mem_calls self.new ≡ mem_calls self.old }
         ensures faults { mem_faults self.new ≡ mem_faults self.old }
@@ -327,7 +334,10 @@ impl MemDisk {
         }
         match self.put(area, at, bytes) {
             Ok(()) => Ok(()),
-            Err(Memory) => Err(DiskFailed),
+            Err(Memory) => {
+                self.starved = raised(self.starved);
+                Err(DiskFailed)
+            }
         }
     }
 
@@ -338,6 +348,7 @@ impl MemDisk {
         ensures told { OnErr result (FailsToCut area size (mem_story self.old) (mem_story self.new) ⊎ Rose (mem_starved self.old) (mem_starved self.new)) }
         ensures noted { NotesOne false call (mem_log self.old) (mem_log self.new) }
         ensures due { OnOk result (fails ≡ false) }
+        ensures cause { OnErr result ((fails ≡ true) ⊎ Rose (mem_starved self.old) (mem_starved self.new)) }
         ensures uncut { OnErr result (mem_areas self.new ≡ mem_areas self.old) }
         ensures calls { mem_calls self.new ≡ mem_calls self.old }
         ensures faults { mem_faults self.new ≡ mem_faults self.old }
@@ -358,6 +369,7 @@ impl MemDisk {
         ensures synced { Syncs area result (mem_story self.old) (mem_story self.new) }
         ensures noted { NotesOne true call (mem_log self.old) (mem_log self.new) }
         ensures due { OnOk result (fails ≡ false) }
+        ensures cause { OnErr result ((fails ≡ true) ⊎ Rose (mem_starved self.old) (mem_starved self.new)) }
         ensures areas { mem_areas self.new ≡ mem_areas self.old }
         ensures calls { mem_calls self.new ≡ mem_calls self.old }
         ensures faults { mem_faults self.new ≡ mem_faults self.old }
@@ -391,7 +403,7 @@ impl MemDisk {
     fn begin(&mut self) -> Result<(), DiskFailed>
         ensures fails { IsErr result ↔ IsFailing (mem_calls self.old) }
         ensures calls { mem_calls self.new ≡ one_more (mem_calls self.old) }
-        ensures counted { CountsCall (mem_calls self.old).made (mem_calls self.new).made (mem_faults self.old) (mem_faults self.new) result }
+        ensures counted { Counts mem_meaning self.old self.new result }
         ensures numbered { NumbersCall false self.old self.new }
         ensures areas { mem_areas self.new ≡ mem_areas self.old }
         ensures story { mem_story self.new ≡ mem_story self.old }
@@ -428,20 +440,14 @@ impl Disk for MemDisk {
     ghost use Rattle.std.specs.Prelude.{◌<◌, ◌⊎◌, true};
     ghost use Rattle.store_disk.specs.Stop.{NumbersCall};
     ghost use Rattle.store_disk.specs.Disk.{Reads, octets_of};
-    ghost use Rattle.store_disk.specs.MemDisk.{mem_areas, mem_calls, mem_faults, mem_starved, mem_story};
+    ghost use Rattle.store_disk.specs.MemDisk.{HasCause, mem_areas, mem_calls, mem_meaning, mem_starved, mem_story};
     ghost use Rattle.kn_base.specs.Count.{Rose};
     ghost use Rattle.store_disk.specs.Story.{Cuts, FailsToCut, FailsToWrite, Syncs, Writes, reads};
 
-    ghost tells = { true };
-
-    ghost story = { mem_story };
-
-    ghost faults = { mem_faults };
-
-    ghost calls = { λ disk. (mem_calls disk).made };
+    ghost meaning = { mem_meaning };
 
     fn size(&mut self, area: Area) -> Result<u64, DiskFailed>
-        ensures counted { CountsCall (mem_calls self.old).made (mem_calls self.new).made (mem_faults self.old) (mem_faults self.new) result }
+        ensures counted { Counts mem_meaning self.old self.new result }
         ensures kept { mem_story self.new ≡ mem_story self.old }
         ensures size { IfOk result (λ size. size ≡ length (octets_of (reads (mem_story self.old)) area)) }
         ensures areas { mem_areas self.new ≡ mem_areas self.old }
@@ -455,7 +461,7 @@ impl Disk for MemDisk {
 
     fn read(&mut self, area: Area, at: u64, into: &mut [u8]) -> Result<(), DiskFailed>
         requires { IsWithin (reads (mem_story self.old)) area (at + length into.old) }
-        ensures counted { CountsCall (mem_calls self.old).made (mem_calls self.new).made (mem_faults self.old) (mem_faults self.new) result }
+        ensures counted { Counts mem_meaning self.old self.new result }
         ensures kept { mem_story self.new ≡ mem_story self.old }
         ensures read { OnOk result (Reads (reads (mem_story self.old)) area at into.new) }
         ensures areas { mem_areas self.new ≡ mem_areas self.old }
@@ -472,12 +478,13 @@ impl Disk for MemDisk {
     fn write_at(&mut self, area: Area, at: u64, bytes: &[u8]) -> Result<(), DiskFailed>
         requires some { 0 < length bytes.now }
         requires inside { IsWithin (reads (mem_story self.old)) area at }
-        ensures counted { CountsCall (mem_calls self.old).made (mem_calls self.new).made (mem_faults self.old) (mem_faults self.new) result }
+        ensures counted { Counts mem_meaning self.old self.new result }
         ensures written { Writes area at bytes.now result (mem_story self.old) (mem_story self.new) }
         ensures end { OnOk result (at + length bytes.now ≤ last_end) }
         ensures told { OnErr result (FailsToWrite area at bytes.now (mem_story self.old) (mem_story self.new) ⊎ Rose (mem_starved self.old) (mem_starved self.new)) }
         ensures unwritten { OnErr result (mem_areas self.new ≡ mem_areas self.old) }
         ensures due { OnOk result (¬ IsFailing (mem_calls self.old)) }
+        ensures cause { OnErr result ((last_end < at + length bytes.now) ⊎ HasCause self.old self.new) }
         ensures calls { mem_calls self.new ≡ one_more (mem_calls self.old) }
         ensures numbered { NumbersCall false self.old self.new }
     {
@@ -490,11 +497,12 @@ impl Disk for MemDisk {
     /// A cut whose number is failing fails. After a fault the area holds what it held.
     fn cut(&mut self, area: Area, size: u64) -> Result<(), DiskFailed>
         requires { IsWithin (reads (mem_story self.old)) area size }
-        ensures counted { CountsCall (mem_calls self.old).made (mem_calls self.new).made (mem_faults self.old) (mem_faults self.new) result }
+        ensures counted { Counts mem_meaning self.old self.new result }
         ensures cut { Cuts area size result (mem_story self.old) (mem_story self.new) }
         ensures told { OnErr result (FailsToCut area size (mem_story self.old) (mem_story self.new) ⊎ Rose (mem_starved self.old) (mem_starved self.new)) }
         ensures uncut { OnErr result (mem_areas self.new ≡ mem_areas self.old) }
         ensures due { OnOk result (¬ IsFailing (mem_calls self.old)) }
+        ensures cause { OnErr result (HasCause self.old self.new) }
         ensures calls { mem_calls self.new ≡ one_more (mem_calls self.old) }
         ensures numbered { NumbersCall false self.old self.new }
     {
@@ -504,10 +512,11 @@ impl Disk for MemDisk {
     }
 
     fn sync(&mut self, area: Area) -> Result<(), DiskFailed>
-        ensures counted { CountsCall (mem_calls self.old).made (mem_calls self.new).made (mem_faults self.old) (mem_faults self.new) result }
+        ensures counted { Counts mem_meaning self.old self.new result }
         ensures synced { Syncs area result (mem_story self.old) (mem_story self.new) }
         ensures areas { mem_areas self.new ≡ mem_areas self.old }
         ensures due { OnOk result (¬ IsFailing (mem_calls self.old)) }
+        ensures cause { OnErr result (HasCause self.old self.new) }
         ensures calls { mem_calls self.new ≡ one_more (mem_calls self.old) }
         ensures numbered { NumbersCall true self.old self.new }
     {

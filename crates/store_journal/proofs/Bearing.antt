@@ -212,21 +212,21 @@ module _ {T : Type 0} (tells : Bool) (birth : ℕ) (octets : List ℕ) (same : o
 -- ---- an opening
 
 -- where nothing is done
-pub opens_same : (story : Story) → OpensOver story story
-opens_same story = leaves_first story (λ image. (before : Areas) × IsImage story before × IsLike (stands before) (stands image)) (λ image is. (image, is, inl refl))
+pub opens_same : (birth : ℕ) (story : Story) → OpensOver birth story story
+opens_same birth story = leaves_first story (λ image. (before : Areas) × IsImage story before × IsLike birth (stands before) (stands image)) (λ image is. (image, is, inl refl))
 
 -- where a store is born
-pub opens_unborn : (old new : Story) (birth : ℕ) → stands (reads old) ≡ unborn → LeavesOnly old new (IsUnbornOrFresh birth) → OpensOver old new
+pub opens_unborn : (old new : Story) (birth : ℕ) → stands (reads old) ≡ unborn → LeavesOnly old new (IsUnbornOrFresh birth) → OpensOver birth old new
 opens_unborn old new birth none leaves =
-    leaves_weaker old new (IsUnbornOrFresh birth) (λ image. (before : Areas) × IsImage old before × IsLike (stands before) (stands image))
-    (λ image is. (reads old, reads_image old, ⊎_elim (λ still. inl (still ∙ sym none)) (λ fresh. inr (none, birth, fresh.0, fresh.1)) is)) leaves
+    leaves_weaker old new (IsUnbornOrFresh birth) (λ image. (before : Areas) × IsImage old before × IsLike birth (stands before) (stands image))
+    (λ image is. (reads old, reads_image old, ⊎_elim (λ still. inl (still ∙ sym none)) (λ fresh. inr (none, fresh.0, fresh.1)) is)) leaves
 
 -- behind syncs
-pub opens_then : (old mid new : Story) → LeavesOnly old mid (IsImage old) → OpensOver mid new → OpensOver old new
-opens_then old mid new first second =
-    leaves_both old mid new (λ image. (before : Areas) × IsImage old before × IsLike (stands before) (stands image))
-    (leaves_weaker old mid (IsImage old) (λ image. (before : Areas) × IsImage old before × IsLike (stands before) (stands image)) (λ image is. (image, is, inl refl)) first)
-    (leaves_weaker mid new (λ image. (before : Areas) × IsImage mid before × IsLike (stands before) (stands image)) (λ image. (before : Areas) × IsImage old before × IsLike (stands before) (stands image))
+pub opens_then : (birth : ℕ) (old mid new : Story) → LeavesOnly old mid (IsImage old) → OpensOver birth mid new → OpensOver birth old new
+opens_then birth old mid new first second =
+    leaves_both old mid new (λ image. (before : Areas) × IsImage old before × IsLike birth (stands before) (stands image))
+    (leaves_weaker old mid (IsImage old) (λ image. (before : Areas) × IsImage old before × IsLike birth (stands before) (stands image)) (λ image is. (image, is, inl refl)) first)
+    (leaves_weaker mid new (λ image. (before : Areas) × IsImage mid before × IsLike birth (stands before) (stands image)) (λ image. (before : Areas) × IsImage old before × IsLike birth (stands before) (stands image))
     (λ image is. (is.0, leaves_now old mid (IsImage old) first is.0 is.1, is.2)) second)
 
 -- ---- the syncs at the start
@@ -248,19 +248,19 @@ pub told_small : (tells : Bool) (story : Story) → OnTrue tells (AreAtRest stor
 told_small tells story rest none a b = OnTrue_from tells _ (λ told. small_rest story (OnTrue_at told rest) (OnTrue_at told none) (OnTrue_at told a) (OnTrue_at told b))
 
 -- nothing is done, which is told
-pub told_same : (tells : Bool) (old new : Story) → new ≡ old → OnTrue tells (OpensOver old new)
-told_same tells old new same = OnTrue_from tells _ (λ told. subst (λ s. OpensOver old s) (sym same) (opens_same old))
+pub told_same : (tells : Bool) (birth : ℕ) (old new : Story) → new ≡ old → OnTrue tells (OpensOver birth old new)
+told_same tells birth old new same = OnTrue_from tells _ (λ told. subst (λ s. OpensOver birth old s) (sym same) (opens_same birth old))
 
 -- a store is born
-pub told_born : (tells : Bool) (birth : ℕ) (old mid new : Story) → mid ≡ old → OnTrue tells (stands (reads old) ≡ unborn) → OnTrue tells (LeavesOnly mid new (IsUnbornOrFresh birth)) → OnTrue tells (OpensOver old new)
+pub told_born : (tells : Bool) (birth : ℕ) (old mid new : Story) → mid ≡ old → OnTrue tells (stands (reads old) ≡ unborn) → OnTrue tells (LeavesOnly mid new (IsUnbornOrFresh birth)) → OnTrue tells (OpensOver birth old new)
 told_born tells birth old mid new same none leaves = OnTrue_from tells _ (λ told. opens_unborn old new birth (OnTrue_at told none) (subst (λ s. LeavesOnly s new (IsUnbornOrFresh birth)) same (OnTrue_at told leaves)))
 
 -- and a store may be opened behind syncs
-pub told_then : (tells : Bool) (old mid new : Story) → OnTrue tells (LeavesOnly old mid (IsImage old)) → OnTrue tells (OpensOver mid new) → OnTrue tells (OpensOver old new)
-told_then tells old mid new first second = OnTrue_from tells _ (λ told. opens_then old mid new (OnTrue_at told first) (OnTrue_at told second))
+pub told_then : (tells : Bool) (birth : ℕ) (old mid new : Story) → OnTrue tells (LeavesOnly old mid (IsImage old)) → OnTrue tells (OpensOver birth mid new) → OnTrue tells (OpensOver birth old new)
+told_then tells birth old mid new first second = OnTrue_from tells _ (λ told. opens_then birth old mid new (OnTrue_at told first) (OnTrue_at told second))
 
-pub told_settled : (tells : Bool) (old new : Story) → OnTrue tells (LeavesOnly old new (IsImage old)) → OnTrue tells (OpensOver old new)
-told_settled tells old new leaves = OnTrue_from tells _ (λ told. opens_then old new new (OnTrue_at told leaves) (opens_same new))
+pub told_settled : (tells : Bool) (birth : ℕ) (old new : Story) → OnTrue tells (LeavesOnly old new (IsImage old)) → OnTrue tells (OpensOver birth old new)
+told_settled tells birth old new leaves = OnTrue_from tells _ (λ told. opens_then birth old new new (OnTrue_at told leaves) (opens_same birth new))
 
 pub told_unborn : (tells : Bool) (story mid : Story) → mid ≡ story → OnTrue tells (picked (reads story).pick ≡ None) → OnTrue tells (length (reads story).a ≤ 17) → OnTrue tells (length (reads mid).b ≤ 17) → OnTrue tells (stands (reads story) ≡ unborn)
 told_unborn tells story mid same none a b = OnTrue_from tells _ (λ told. unborn_small (reads story) (OnTrue_at told none) (OnTrue_at told a) (subst (λ s. length (reads s).b ≤ 17) same (OnTrue_at told b)))

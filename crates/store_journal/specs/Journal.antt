@@ -2,6 +2,7 @@
 use Rattle.std.specs.Prelude.{◌≡◌, ◌⊎◌, ◌<◌, ◌≤◌, ◌+◌, ◌-◌, ◌^◌, ℕ, Bool, List, [], ◌∷◌, ◌++◌, length, take, drop, All, Option, Some, None, is_some, if◌then◌else◌, Result, Ok, Err, OnOk, OnErr}
 use Rattle.std.specs.Bool.{OnTrue}
 use Rattle.store_disk.specs.Disk.{Areas}
+use Rattle.store_disk.specs.Meaning.{Meaning}
 use Rattle.store_disk.specs.Story.{Story, IsImage, LeavesOnly}
 use Rattle.store_disk.specs.declared.disk.DiskFailed.{DiskFailed}
 use Rattle.store_journal.specs.Area.{Standing, unborn, born, foreign, stands, gate_place, unit, payloads_in, IsPayload}
@@ -56,7 +57,7 @@ module _ {D : Type 0} where
 
   -- The journal holds these payloads, and one more may stand behind them where one is unsure: what is left to hand out is the end of them,
   -- its disk reads as them, and so does whatever a stop leaves.
-  pub record IsJournal (tells : Bool) (story : D → Story) (journal : Journal D) (birth : ℕ) (payloads : List (List ℕ)) (unsure : Option (List ℕ)) : Type 0 where
+  pub record IsJournal (meaning : Meaning D) (journal : Journal D) (birth : ℕ) (payloads : List (List ℕ)) (unsure : Option (List ℕ)) : Type 0 where
     pub handed : List (List ℕ)
     pub born : journal.birth ≡ birth
     pub small : birth < 2 ^ 64
@@ -68,43 +69,55 @@ module _ {D : Type 0} where
     pub ready : 0 < length (reserved journal) → journal.unit.items ≡ unit (reserved journal) ++ 0 ∷ []
     pub fits : 0 < length (reserved journal) → IsPayload (reserved journal)
     pub doubt : journal.unsure ≡ is_some unsure
-    pub kept : OnTrue tells (IsKeptBy (story journal.disk) journal.area birth payloads unsure)
+    pub kept : OnTrue meaning.tells (IsKeptBy (meaning.story journal.disk) journal.area birth payloads unsure)
 
   -- the journal holds some payloads
-  abbrev pub IsKept : Bool → (D → Story) → Journal D → Type 0
-  IsKept tells story journal = (birth : ℕ) × (payloads : List (List ℕ)) × (unsure : Option (List ℕ)) × IsJournal tells story journal birth payloads unsure
+  abbrev pub IsKept : Meaning D → Journal D → Type 0
+  IsKept meaning journal = (birth : ℕ) × (payloads : List (List ℕ)) × (unsure : Option (List ℕ)) × IsJournal meaning journal birth payloads unsure
 
   -- whatever the journal held, it still holds
-  abbrev pub HoldsSame : Bool → (D → Story) → Journal D → Journal D → Type 0
-  HoldsSame tells story old new =
-      (birth : ℕ) (payloads : List (List ℕ)) (unsure : Option (List ℕ)) → IsJournal tells story old birth payloads unsure → IsJournal tells story new birth payloads unsure
+  abbrev pub HoldsSame : Meaning D → Journal D → Journal D → Type 0
+  HoldsSame meaning old new =
+      (birth : ℕ) (payloads : List (List ℕ)) (unsure : Option (List ℕ)) → IsJournal meaning old birth payloads unsure → IsJournal meaning new birth payloads unsure
 
   -- An append to a journal in which nothing was unsure: after Ok its payload stands last, and else it stands nowhere, or it is unsure. A stop
   -- on the way leaves the payloads without it or with it.
-  pub record Appends {T : Type 0} (tells : Bool) (story : D → Story) (old new : Journal D) (result : Result T DiskFailed) (birth : ℕ) (payloads : List (List ℕ)) : Type 0 where
-    pub ok : OnOk result (IsJournal tells story new birth (payloads ++ reserved old ∷ []) None)
-    pub failed : OnErr result (IsJournal tells story new birth payloads (if is_unsure new then Some (reserved old) else None))
-    pub stops : OnTrue tells (LeavesOnly (story (disk_of old)) (story (disk_of new)) (MayHold birth (area_of old) payloads (Some (reserved old))))
+  pub record Appends {T : Type 0} (meaning : Meaning D) (old new : Journal D) (result : Result T DiskFailed) (birth : ℕ) (payloads : List (List ℕ)) : Type 0 where
+    pub ok : OnOk result (IsJournal meaning new birth (payloads ++ reserved old ∷ []) None)
+    pub failed : OnErr result (IsJournal meaning new birth payloads (if is_unsure new then Some (reserved old) else None))
+    pub stops : OnTrue meaning.tells (LeavesOnly (meaning.story (disk_of old)) (meaning.story (disk_of new)) (MayHold birth (area_of old) payloads (Some (reserved old))))
 
   -- A repair: after Ok nothing is unsure, and else what was still is. A stop on the way leaves what one before it left.
-  pub record Repairs {T : Type 0} (tells : Bool) (story : D → Story) (old new : Journal D) (result : Result T DiskFailed) (birth : ℕ) (payloads : List (List ℕ)) (unsure : Option (List ℕ)) : Type 0 where
-    pub ok : OnOk result (IsJournal tells story new birth payloads None)
-    pub failed : OnErr result (IsJournal tells story new birth payloads unsure)
-    pub stops : OnTrue tells (LeavesOnly (story (disk_of old)) (story (disk_of new)) (MayHold birth (area_of old) payloads unsure))
+  pub record Repairs {T : Type 0} (meaning : Meaning D) (old new : Journal D) (result : Result T DiskFailed) (birth : ℕ) (payloads : List (List ℕ)) (unsure : Option (List ℕ)) : Type 0 where
+    pub ok : OnOk result (IsJournal meaning new birth payloads None)
+    pub failed : OnErr result (IsJournal meaning new birth payloads unsure)
+    pub stops : OnTrue meaning.tells (LeavesOnly (meaning.story (disk_of old)) (meaning.story (disk_of new)) (MayHold birth (area_of old) payloads unsure))
 
--- areas stand for what others stood for, or a store that wasn't born is born, without payloads
-abbrev pub IsLike : Standing → Standing → Type 0
-IsLike before now = (now ≡ before) ⊎ ((before ≡ unborn) × (birth : ℕ) × (area : Area) × (now ≡ born birth area []))
+-- areas stand for what others stood for, or a store that wasn't born is born with this birth, without payloads
+abbrev pub IsLike : (birth : ℕ) → Standing → Standing → Type 0
+IsLike birth before now = (now ≡ before) ⊎ ((before ≡ unborn) × (area : Area) × (now ≡ born birth area []))
 
--- A stop in an opening leaves what a stop before it left, but for a birth.
-abbrev pub OpensOver : Story → Story → Type 0
-OpensOver old new = LeavesOnly old new (λ image. (before : Areas) × IsImage old before × IsLike (stands before) (stands image))
+-- A stop in an opening leaves what a stop before it left, but for a birth with this number.
+abbrev pub OpensOver : (birth : ℕ) → Story → Story → Type 0
+OpensOver birth old new = LeavesOnly old new (λ image. (before : Areas) × IsImage old before × IsLike birth (stands before) (stands image))
 
 -- what an opening of areas that stand so finds: the birth, the area and the payloads, none where the store is born with this birth
 abbrev pub OpensAs : Standing → ℕ → ℕ → Area → List (List ℕ) → Type 0
 OpensAs unborn birth now area payloads = (now ≡ birth) × (area ≡ A) × (payloads ≡ [])
 OpensAs (born old stood_in stood) birth now area payloads = (now ≡ old) × (area ≡ stood_in) × (payloads ≡ stood)
 OpensAs (foreign stood_in at) birth now area payloads = ⊥
+
+-- these payloads, or where one is unsure, maybe that one behind them
+abbrev pub AreFound : List (List ℕ) → Option (List ℕ) → List (List ℕ) → Type 0
+AreFound payloads None left = left ≡ payloads
+AreFound payloads (Some unsure) left = (left ≡ payloads) ⊎ (left ≡ payloads ++ unsure ∷ [])
+
+-- Whatever is left of a disk, also by a stop, an opening of it finds this birth and these payloads, or where one is unsure, maybe that one
+-- more, last.
+abbrev pub HandsOn : Story → (birth : ℕ) → List (List ℕ) → (unsure : Option (List ℕ)) → Type 0
+HandsOn story birth payloads unsure =
+    (image : Areas) → IsImage story image → (other now : ℕ) (area : Area) (left : List (List ℕ)) → OpensAs (stands image) other now area left
+    → (now ≡ birth) × AreFound payloads unsure left
 
 -- an opening answers Foreign only where the areas are, in that area at that place
 abbrev pub IsCause : Areas → OpenFault → Type 0

@@ -18,10 +18,10 @@ use store_disk::{Area, Disk, DiskFailed};
 
 // Refuses an area of a store that isn't born, where it holds more than a birth would write.
 fn refuse_more<D: Disk>(disk: &mut D, area: Area) -> Result<(), OpenFault>
-    ensures small { OnOk result (OnTrue D.tells (length (octets_of (reads (D.story disk.old)) area) ≤ 17)) }
-    ensures cause { IfErr result (IsMore D.tells (reads (D.story disk.old)) area) }
-    ensures kept { D.story disk.new ≡ D.story disk.old }
-    ensures spares { Spares 1 (D.calls disk.old) (D.calls disk.new) (D.faults disk.old) (D.faults disk.new) result }
+    ensures small { OnOk result (OnTrue D.meaning.tells (length (octets_of (reads (D.meaning.story disk.old)) area) ≤ 17)) }
+    ensures cause { IfErr result (IsMore D.meaning.tells (reads (D.meaning.story disk.old)) area) }
+    ensures kept { D.meaning.story disk.new ≡ D.meaning.story disk.old }
+    ensures spares { Spares D.meaning 1 disk.old disk.new result }
 {
     if disk.size(area)? > FRESH as u64 {
         return Err(OpenFault::Foreign {
@@ -34,10 +34,10 @@ fn refuse_more<D: Disk>(disk: &mut D, area: Area) -> Result<(), OpenFault>
 
 // Writes a store without payloads: both areas, and then Pick, each at rest before the next.
 fn write_fresh<D: Disk>(disk: &mut D, birth: u64) -> Result<(), DiskFailed>
-    requires small { OnTrue D.tells (AreSmall most_unpicked (D.story disk.old)) }
-    ensures kept { OnOk result (OnTrue D.tells (IsKeptBy (D.story disk.new) Area.A birth [] None)) }
-    ensures stops { OnTrue D.tells (LeavesOnly (D.story disk.old) (D.story disk.new) (IsUnbornOrFresh birth)) }
-    ensures spends { Spends 6 (D.calls disk.old) (D.calls disk.new) (D.faults disk.old) (D.faults disk.new) result }
+    requires small { OnTrue D.meaning.tells (AreSmall most_unpicked (D.meaning.story disk.old)) }
+    ensures kept { OnOk result (OnTrue D.meaning.tells (IsKeptBy (D.meaning.story disk.new) Area.A birth [] None)) }
+    ensures stops { OnTrue D.meaning.tells (LeavesOnly (D.meaning.story disk.old) (D.meaning.story disk.new) (IsUnbornOrFresh birth)) }
+    ensures spends { Spends D.meaning 6 disk.old disk.new result }
 {
     let octets = fresh_area(birth);
     write_synced(disk, Area::A, 0, &octets)?;
@@ -47,15 +47,15 @@ fn write_fresh<D: Disk>(disk: &mut D, birth: u64) -> Result<(), DiskFailed>
 
 /// Gives birth to a store that isn't born.
 pub fn bear<D: Disk>(disk: &mut D, birth: u64) -> Result<(), OpenFault>
-    requires unpicked { OnTrue D.tells (picked (reads (D.story disk.old)).pick ≡ None) }
-    requires rest { OnTrue D.tells (AreAtRest (D.story disk.old)) }
-    ensures unborn { OnOk result (OnTrue D.tells (stands (reads (D.story disk.old)) ≡ unborn)) }
-    ensures kept { OnOk result (OnTrue D.tells (IsKeptBy (D.story disk.new) Area.A birth [] None)) }
-    ensures stops { OnTrue D.tells (OpensOver (D.story disk.old) (D.story disk.new)) }
-    ensures cause { IfErr result (λ fault. OnTrue D.tells (IsCause (reads (D.story disk.old)) fault)) }
-    ensures untouched { OnTrue D.tells (IsUntouched (reads (D.story disk.old)) (reads (D.story disk.new))) }
-    ensures unchanged { IfErr result (λ fault. OnTrue D.tells (IsUnlessDisk fault (D.story disk.new ≡ D.story disk.old))) }
-    ensures spares { Spares 8 (D.calls disk.old) (D.calls disk.new) (D.faults disk.old) (D.faults disk.new) result }
+    requires unpicked { OnTrue D.meaning.tells (picked (reads (D.meaning.story disk.old)).pick ≡ None) }
+    requires rest { OnTrue D.meaning.tells (AreAtRest (D.meaning.story disk.old)) }
+    ensures unborn { OnOk result (OnTrue D.meaning.tells (stands (reads (D.meaning.story disk.old)) ≡ unborn)) }
+    ensures kept { OnOk result (OnTrue D.meaning.tells (IsKeptBy (D.meaning.story disk.new) Area.A birth [] None)) }
+    ensures stops { OnTrue D.meaning.tells (OpensOver birth (D.meaning.story disk.old) (D.meaning.story disk.new)) }
+    ensures cause { IfErr result (λ fault. OnTrue D.meaning.tells (IsCause (reads (D.meaning.story disk.old)) fault)) }
+    ensures untouched { OnTrue D.meaning.tells (IsUntouched (reads (D.meaning.story disk.old)) (reads (D.meaning.story disk.new))) }
+    ensures unchanged { IfErr result (λ fault. OnTrue D.meaning.tells (IsUnlessDisk fault (D.meaning.story disk.new ≡ D.meaning.story disk.old))) }
+    ensures spares { Spares D.meaning 8 disk.old disk.new result }
 {
     refuse_more(disk, Area::A)?;
     refuse_more(disk, Area::B)?;

@@ -17,10 +17,10 @@ pub fn write_synced<D: Disk>(
     octets: &[u8],
 ) -> Result<(), DiskFailed>
     requires some { 0 < length octets.now }
-    requires inside { OnTrue D.tells (IsWithin (reads (D.story disk.old)) area at) }
-    ensures written { OnTrue D.tells (WritesSynced area at octets.now result (D.story disk.old) (D.story disk.new)) }
+    requires inside { OnTrue D.meaning.tells (IsWithin (reads (D.meaning.story disk.old)) area at) }
+    ensures written { OnTrue D.meaning.tells (WritesSynced area at octets.now result (D.meaning.story disk.old) (D.meaning.story disk.new)) }
     ensures end { OnOk result (at + length octets.now ≤ last_end) }
-    ensures spends { Spends 2 (D.calls disk.old) (D.calls disk.new) (D.faults disk.old) (D.faults disk.new) result }
+    ensures spends { Spends D.meaning 2 disk.old disk.new result }
 {
     disk.write_at(area, at, octets)?;
     disk.sync(area)

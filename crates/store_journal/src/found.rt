@@ -29,10 +29,10 @@ pub struct Found {
 
 // Puts all areas at rest, so that what is read of them stays.
 fn settle<D: Disk>(disk: &mut D) -> Result<(), DiskFailed>
-    ensures rest { OnOk result (OnTrue D.tells (AreAtRest (D.story disk.new))) }
-    ensures same { OnTrue D.tells (reads (D.story disk.new) ≡ reads (D.story disk.old)) }
-    ensures stops { OnTrue D.tells (LeavesOnly (D.story disk.old) (D.story disk.new) (IsImage (D.story disk.old))) }
-    ensures spends { Spends 3 (D.calls disk.old) (D.calls disk.new) (D.faults disk.old) (D.faults disk.new) result }
+    ensures rest { OnOk result (OnTrue D.meaning.tells (AreAtRest (D.meaning.story disk.new))) }
+    ensures same { OnTrue D.meaning.tells (reads (D.meaning.story disk.new) ≡ reads (D.meaning.story disk.old)) }
+    ensures stops { OnTrue D.meaning.tells (LeavesOnly (D.meaning.story disk.old) (D.meaning.story disk.new) (IsImage (D.meaning.story disk.old))) }
+    ensures spends { Spends D.meaning 3 disk.old disk.new result }
 {
     disk.sync(Area::A)?;
     disk.sync(Area::B)?;
@@ -41,10 +41,10 @@ fn settle<D: Disk>(disk: &mut D) -> Result<(), DiskFailed>
 
 // All octets of an area, in one read.
 fn read_whole<D: Disk>(alloc: Global, disk: &mut D, area: Area) -> Result<Vec<u8>, OpenFault>
-    ensures octets { IfOk result (λ octets. OnTrue D.tells (octets.items ≡ octets_of (reads (D.story disk.old)) area)) }
-    ensures kept { D.story disk.new ≡ D.story disk.old }
-    ensures cause { IfErr result (λ fault. OnTrue D.tells (IsCause (reads (D.story disk.old)) fault)) }
-    ensures spares { Spares 2 (D.calls disk.old) (D.calls disk.new) (D.faults disk.old) (D.faults disk.new) result }
+    ensures octets { IfOk result (λ octets. OnTrue D.meaning.tells (octets.items ≡ octets_of (reads (D.meaning.story disk.old)) area)) }
+    ensures kept { D.meaning.story disk.new ≡ D.meaning.story disk.old }
+    ensures cause { IfErr result (λ fault. OnTrue D.meaning.tells (IsCause (reads (D.meaning.story disk.old)) fault)) }
+    ensures spares { Spares D.meaning 2 disk.old disk.new result }
 {
     let size = disk.size(area)?;
     let mut octets = vec![in alloc; 0u8; size as usize]?;
@@ -54,12 +54,12 @@ fn read_whole<D: Disk>(alloc: Global, disk: &mut D, area: Area) -> Result<Vec<u8
 
 // The picked area: its birth and its payloads.
 fn load_area<D: Disk>(alloc: Global, disk: &mut D, area: Area) -> Result<Found, OpenFault>
-    requires picks { OnTrue D.tells (picked (reads (D.story disk.old)).pick ≡ Some area) }
-    requires rest { OnTrue D.tells (AreAtRest (D.story disk.old)) }
-    ensures found { IfOk result (λ found. (birth : ℕ) → IsFound D.tells (D.story disk.old) (D.story disk.new) birth found (payloads_in (drop found.place found.octets.items))) }
-    ensures cause { IfErr result (λ fault. OnTrue D.tells (IsCause (reads (D.story disk.old)) fault)) }
-    ensures kept { D.story disk.new ≡ D.story disk.old }
-    ensures spares { Spares 2 (D.calls disk.old) (D.calls disk.new) (D.faults disk.old) (D.faults disk.new) result }
+    requires picks { OnTrue D.meaning.tells (picked (reads (D.meaning.story disk.old)).pick ≡ Some area) }
+    requires rest { OnTrue D.meaning.tells (AreAtRest (D.meaning.story disk.old)) }
+    ensures found { IfOk result (λ found. (birth : ℕ) → IsFound D.meaning.tells (D.meaning.story disk.old) (D.meaning.story disk.new) birth found (payloads_in (drop found.place found.octets.items))) }
+    ensures cause { IfErr result (λ fault. OnTrue D.meaning.tells (IsCause (reads (D.meaning.story disk.old)) fault)) }
+    ensures kept { D.meaning.story disk.new ≡ D.meaning.story disk.old }
+    ensures spares { Spares D.meaning 2 disk.old disk.new result }
 {
     let octets = read_whole(alloc, disk, area)?;
     match check(area, &octets) {
@@ -76,14 +76,14 @@ fn load_area<D: Disk>(alloc: Global, disk: &mut D, area: Area) -> Result<Found, 
 
 // A store that isn't born, which is born now.
 fn bear_found<D: Disk>(alloc: Global, disk: &mut D, birth: u64) -> Result<Found, OpenFault>
-    requires unpicked { OnTrue D.tells (picked (reads (D.story disk.old)).pick ≡ None) }
-    requires rest { OnTrue D.tells (AreAtRest (D.story disk.old)) }
-    ensures found { IfOk result (λ found. IsFound D.tells (D.story disk.old) (D.story disk.new) birth found (payloads_in (drop found.place found.octets.items))) }
-    ensures stops { OnTrue D.tells (OpensOver (D.story disk.old) (D.story disk.new)) }
-    ensures cause { IfErr result (λ fault. OnTrue D.tells (IsCause (reads (D.story disk.old)) fault)) }
-    ensures untouched { OnTrue D.tells (IsUntouched (reads (D.story disk.old)) (reads (D.story disk.new))) }
-    ensures unchanged { IfErr result (λ fault. OnTrue D.tells (IsUnlessDisk fault (D.story disk.new ≡ D.story disk.old))) }
-    ensures spares { Spares 8 (D.calls disk.old) (D.calls disk.new) (D.faults disk.old) (D.faults disk.new) result }
+    requires unpicked { OnTrue D.meaning.tells (picked (reads (D.meaning.story disk.old)).pick ≡ None) }
+    requires rest { OnTrue D.meaning.tells (AreAtRest (D.meaning.story disk.old)) }
+    ensures found { IfOk result (λ found. IsFound D.meaning.tells (D.meaning.story disk.old) (D.meaning.story disk.new) birth found (payloads_in (drop found.place found.octets.items))) }
+    ensures stops { OnTrue D.meaning.tells (OpensOver birth (D.meaning.story disk.old) (D.meaning.story disk.new)) }
+    ensures cause { IfErr result (λ fault. OnTrue D.meaning.tells (IsCause (reads (D.meaning.story disk.old)) fault)) }
+    ensures untouched { OnTrue D.meaning.tells (IsUntouched (reads (D.meaning.story disk.old)) (reads (D.meaning.story disk.new))) }
+    ensures unchanged { IfErr result (λ fault. OnTrue D.meaning.tells (IsUnlessDisk fault (D.meaning.story disk.new ≡ D.meaning.story disk.old))) }
+    ensures spares { Spares D.meaning 8 disk.old disk.new result }
 {
     let mut octets = Vec::new(alloc);
     octets.extend_from_slice(&fresh_area(birth))?;
@@ -99,13 +99,13 @@ fn bear_found<D: Disk>(alloc: Global, disk: &mut D, birth: u64) -> Result<Found,
 
 // What a store at rest holds: that of its picked area, or nothing, where it isn't born and is born now.
 fn load_at_rest<D: Disk>(alloc: Global, disk: &mut D, birth: u64) -> Result<Found, OpenFault>
-    requires rest { OnTrue D.tells (AreAtRest (D.story disk.old)) }
-    ensures found { IfOk result (λ found. IsFound D.tells (D.story disk.old) (D.story disk.new) birth found (payloads_in (drop found.place found.octets.items))) }
-    ensures stops { OnTrue D.tells (OpensOver (D.story disk.old) (D.story disk.new)) }
-    ensures cause { IfErr result (λ fault. OnTrue D.tells (IsCause (reads (D.story disk.old)) fault)) }
-    ensures untouched { OnTrue D.tells (IsUntouched (reads (D.story disk.old)) (reads (D.story disk.new))) }
-    ensures unchanged { IfErr result (λ fault. OnTrue D.tells (IsUnlessDisk fault (D.story disk.new ≡ D.story disk.old))) }
-    ensures spares { Spares 10 (D.calls disk.old) (D.calls disk.new) (D.faults disk.old) (D.faults disk.new) result }
+    requires rest { OnTrue D.meaning.tells (AreAtRest (D.meaning.story disk.old)) }
+    ensures found { IfOk result (λ found. IsFound D.meaning.tells (D.meaning.story disk.old) (D.meaning.story disk.new) birth found (payloads_in (drop found.place found.octets.items))) }
+    ensures stops { OnTrue D.meaning.tells (OpensOver birth (D.meaning.story disk.old) (D.meaning.story disk.new)) }
+    ensures cause { IfErr result (λ fault. OnTrue D.meaning.tells (IsCause (reads (D.meaning.story disk.old)) fault)) }
+    ensures untouched { OnTrue D.meaning.tells (IsUntouched (reads (D.meaning.story disk.old)) (reads (D.meaning.story disk.new))) }
+    ensures unchanged { IfErr result (λ fault. OnTrue D.meaning.tells (IsUnlessDisk fault (D.meaning.story disk.new ≡ D.meaning.story disk.old))) }
+    ensures spares { Spares D.meaning 10 disk.old disk.new result }
 {
     match read_pick(disk)? {
         Some(area) => load_area(alloc, disk, area),
@@ -115,12 +115,12 @@ fn load_at_rest<D: Disk>(alloc: Global, disk: &mut D, birth: u64) -> Result<Foun
 
 /// What a store holds, once all its areas are at rest: that of its picked area, or nothing, where it isn't born and is born now.
 pub fn load<D: Disk>(alloc: Global, disk: &mut D, birth: u64) -> Result<Found, OpenFault>
-    ensures found { IfOk result (λ found. IsFound D.tells (D.story disk.old) (D.story disk.new) birth found (payloads_in (drop found.place found.octets.items))) }
-    ensures stops { OnTrue D.tells (OpensOver (D.story disk.old) (D.story disk.new)) }
-    ensures cause { IfErr result (λ fault. OnTrue D.tells (IsCause (reads (D.story disk.old)) fault)) }
-    ensures untouched { OnTrue D.tells (IsUntouched (reads (D.story disk.old)) (reads (D.story disk.new))) }
-    ensures unchanged { IfErr result (λ fault. OnTrue D.tells (IsUnlessDisk fault (reads (D.story disk.new) ≡ reads (D.story disk.old)))) }
-    ensures spares { Spares 13 (D.calls disk.old) (D.calls disk.new) (D.faults disk.old) (D.faults disk.new) result }
+    ensures found { IfOk result (λ found. IsFound D.meaning.tells (D.meaning.story disk.old) (D.meaning.story disk.new) birth found (payloads_in (drop found.place found.octets.items))) }
+    ensures stops { OnTrue D.meaning.tells (OpensOver birth (D.meaning.story disk.old) (D.meaning.story disk.new)) }
+    ensures cause { IfErr result (λ fault. OnTrue D.meaning.tells (IsCause (reads (D.meaning.story disk.old)) fault)) }
+    ensures untouched { OnTrue D.meaning.tells (IsUntouched (reads (D.meaning.story disk.old)) (reads (D.meaning.story disk.new))) }
+    ensures unchanged { IfErr result (λ fault. OnTrue D.meaning.tells (IsUnlessDisk fault (reads (D.meaning.story disk.new) ≡ reads (D.meaning.story disk.old)))) }
+    ensures spares { Spares D.meaning 13 disk.old disk.new result }
 {
     settle(disk)?;
     load_at_rest(alloc, disk, birth)

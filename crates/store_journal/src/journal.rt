@@ -5,7 +5,7 @@ ghost use Rattle.std.specs.Bool.{OnTrue};
 ghost use Rattle.kn_base.specs.Count.{Rose};
 ghost use Rattle.store_disk.specs.Story.{reads};
 ghost use Rattle.store_journal.specs.Area.{IsPayload, stands, units};
-ghost use Rattle.store_journal.specs.Journal.{Appends, HoldsSame, IsHandedOut, IsJournal, IsKept, OpensOver, Repairs, area_of, birth_of, disk_of, gate_of, is_unsure, left, next_gate, reserved, Hands, MovesOn, OpensAs, IsCause, IsUnlessDisk, IsUntouched};
+ghost use Rattle.store_journal.specs.Journal.{Appends, HandsOn, HoldsSame, IsHandedOut, IsJournal, IsKept, OpensOver, Repairs, area_of, birth_of, disk_of, gate_of, is_unsure, left, next_gate, reserved, Hands, MovesOn, OpensAs, IsCause, IsUnlessDisk, IsUntouched};
 
 use crate::OpenFault;
 use crate::commit::write_synced;
@@ -41,25 +41,25 @@ impl<D: Disk> Journal<D> {
     /// whatever a stop leaves. A store that isn't born is born with `birth`. `Foreign` comes where the areas are no store of
     /// ours, and leaves what they read as; `Disk` comes only where the disk counted a fault. Each fault gives the disk back.
     pub fn open(alloc: Global, disk: D, birth: u64) -> Result<Journal<D>, (D, OpenFault)>
-        ensures opened { IfOk result (λ journal. IsJournal D.tells D.story journal (birth_of journal) (left journal) None) }
-        ensures kept { IfOk result (IsKept D.tells D.story) }
+        ensures opened { IfOk result (λ journal. IsJournal D.meaning journal (birth_of journal) (left journal) None) }
+        ensures kept { IfOk result (IsKept D.meaning) }
         ensures unreserved { IfOk result (λ journal. reserved journal ≡ []) }
-        ensures stood { IfOk result (λ journal. OnTrue D.tells
-            (OpensAs (stands (reads (D.story disk))) birth (birth_of journal) (area_of journal) (left journal))) }
+        ensures stood { IfOk result (λ journal. OnTrue D.meaning.tells
+            (OpensAs (stands (reads (D.meaning.story disk))) birth (birth_of journal) (area_of journal) (left journal))) }
         ensures gate { IfOk result (λ journal. gate_of journal ≡ 16) }
         ensures next_gate { IfOk result (λ journal. next_gate journal ≡ 16) }
-        ensures stops { IfOk result (λ journal. OnTrue D.tells (OpensOver (D.story disk) (D.story (disk_of journal)))) }
-        ensures stops_back { IfErr result (λ fault. OnTrue D.tells (OpensOver (D.story disk) (D.story fault.0))) }
-        ensures untouched { IfOk result (λ journal. OnTrue D.tells (IsUntouched (reads (D.story disk)) (reads (D.story (disk_of journal))))) }
-        ensures untouched_back { IfErr result (λ fault. OnTrue D.tells (IsUntouched (reads (D.story disk)) (reads (D.story fault.0)))) }
-        ensures unchanged { IfErr result (λ fault. OnTrue D.tells (IsUnlessDisk fault.1 (reads (D.story fault.0) ≡ reads (D.story disk)))) }
-        ensures cause { IfErr result (λ fault. OnTrue D.tells (IsCause (reads (D.story disk)) fault.1)) }
-        ensures unfailed { IfOk result (λ journal. D.faults (disk_of journal) ≡ D.faults disk) }
-        ensures spared { IfErr result (λ fault. IsUnlessDisk fault.1 (D.faults fault.0 ≡ D.faults disk)) }
-        ensures failed { IfErr result (λ fault. (fault.1 ≡ OpenFault.Disk) → Rose (D.faults disk) (D.faults fault.0)) }
-        ensures faults { IfErr result (λ fault. D.faults disk ≤ D.faults fault.0) }
-        ensures calls { IfOk result (λ journal. D.calls (disk_of journal) ≤ D.calls disk + 13) }
-        ensures calls_back { IfErr result (λ fault. D.calls fault.0 ≤ D.calls disk + 13) }
+        ensures stops { IfOk result (λ journal. OnTrue D.meaning.tells (OpensOver birth (D.meaning.story disk) (D.meaning.story (disk_of journal)))) }
+        ensures stops_back { IfErr result (λ fault. OnTrue D.meaning.tells (OpensOver birth (D.meaning.story disk) (D.meaning.story fault.0))) }
+        ensures untouched { IfOk result (λ journal. OnTrue D.meaning.tells (IsUntouched (reads (D.meaning.story disk)) (reads (D.meaning.story (disk_of journal))))) }
+        ensures untouched_back { IfErr result (λ fault. OnTrue D.meaning.tells (IsUntouched (reads (D.meaning.story disk)) (reads (D.meaning.story fault.0)))) }
+        ensures unchanged { IfErr result (λ fault. OnTrue D.meaning.tells (IsUnlessDisk fault.1 (reads (D.meaning.story fault.0) ≡ reads (D.meaning.story disk)))) }
+        ensures cause { IfErr result (λ fault. OnTrue D.meaning.tells (IsCause (reads (D.meaning.story disk)) fault.1)) }
+        ensures unfailed { IfOk result (λ journal. D.meaning.faults (disk_of journal) ≡ D.meaning.faults disk) }
+        ensures spared { IfErr result (λ fault. IsUnlessDisk fault.1 (D.meaning.faults fault.0 ≡ D.meaning.faults disk)) }
+        ensures failed { IfErr result (λ fault. (fault.1 ≡ OpenFault.Disk) → Rose (D.meaning.faults disk) (D.meaning.faults fault.0)) }
+        ensures faults { IfErr result (λ fault. D.meaning.faults disk ≤ D.meaning.faults fault.0) }
+        ensures calls { IfOk result (λ journal. D.meaning.calls (disk_of journal) ≤ D.meaning.calls disk + 13) }
+        ensures calls_back { IfErr result (λ fault. D.meaning.calls fault.0 ≤ D.meaning.calls disk + 13) }
     {
         let mut disk = disk;
         match load(alloc, &mut disk, birth) {
@@ -105,10 +105,10 @@ impl<D: Disk> Journal<D> {
 
     /// How many octets the picked area has of a state, which is none yet, and of entries: their units, without the header and the closed gate.
     pub fn sizes(&self) -> (u64, u64)
-        requires { IsKept D.tells D.story self.now }
+        requires { IsKept D.meaning self.now }
         ensures state { result.0 ≡ 0 }
         ensures entries { (birth : ℕ) (payloads : List (List ℕ)) (unsure : Option (List ℕ)) →
-            IsJournal D.tells D.story self.now birth payloads unsure → result.1 ≡ length (units payloads) }
+            IsJournal D.meaning self.now birth payloads unsure → result.1 ≡ length (units payloads) }
     {
         (0, self.end - HEADER as u64)
     }
@@ -123,7 +123,7 @@ impl<D: Disk> Journal<D> {
     /// The next payload, in order, or `None` behind the last. Only `Memory` is answered here, and it
     /// leaves the place.
     pub fn next(&mut self) -> Result<Option<Octets>, OpenFault>
-        requires { IsKept D.tells D.story self.old }
+        requires { IsKept D.meaning self.old }
         ensures next { Hands (left self.old) result (left self.new) }
         ensures gate { MovesOn self.old result self.new }
         ensures disk { disk_of self.new ≡ disk_of self.old }
@@ -131,8 +131,8 @@ impl<D: Disk> Journal<D> {
         ensures birth { birth_of self.new ≡ birth_of self.old }
         ensures unsure { is_unsure self.new ≡ is_unsure self.old }
         ensures reserved { reserved self.new ≡ reserved self.old }
-        ensures kept { IsKept D.tells D.story self.new }
-        ensures same { HoldsSame D.tells D.story self.old self.new }
+        ensures kept { IsKept D.meaning self.new }
+        ensures same { HoldsSame D.meaning self.old self.new }
     {
         let Some((payload, behind)) = first_unit(&self.octets[self.place..])? else {
             self.gate = self.place as u64;
@@ -147,7 +147,7 @@ impl<D: Disk> Journal<D> {
     /// Makes a payload of 1 to 16,777,216 octets the reserved one, in place of another. All memory for
     /// its append is taken here. After `Memory` what was reserved still is.
     pub fn reserve(&mut self, payload: &[u8]) -> Result<(), Memory>
-        requires kept { IsKept D.tells D.story self.old }
+        requires kept { IsKept D.meaning self.old }
         requires size { IsPayload payload.now }
         ensures ok { OnOk result (reserved self.new ≡ payload.now) }
         ensures err { OnErr result (reserved self.new ≡ reserved self.old) }
@@ -158,8 +158,8 @@ impl<D: Disk> Journal<D> {
         ensures unsure { is_unsure self.new ≡ is_unsure self.old }
         ensures gate { gate_of self.new ≡ gate_of self.old }
         ensures next_gate { next_gate self.new ≡ next_gate self.old }
-        ensures kept { IsKept D.tells D.story self.new }
-        ensures same { HoldsSame D.tells D.story self.old self.new }
+        ensures kept { IsKept D.meaning self.new }
+        ensures same { HoldsSame D.meaning self.old self.new }
     {
         self.unit = unit_and_gate(self.alloc, payload)?;
         Ok(())
@@ -169,22 +169,22 @@ impl<D: Disk> Journal<D> {
     /// a sync, the gate opened, a sync. Whatever is answered, nothing is reserved then. After a fault of the first two calls the journal is
     /// as it was; after one of the last two the payload is unsure.
     pub fn append(&mut self) -> Result<(), DiskFailed>
-        requires kept { IsKept D.tells D.story self.old }
+        requires kept { IsKept D.meaning self.old }
         requires sure { is_unsure self.old ≡ false }
         requires ended { IsHandedOut self.old }
         requires reserved { 0 < length (reserved self.old) }
-        ensures appended { (birth : ℕ) (payloads : List (List ℕ)) → IsJournal D.tells D.story self.old birth payloads None →
-            Appends D.tells D.story self.old self.new result birth payloads }
-        ensures kept { IsKept D.tells D.story self.new }
+        ensures appended { (birth : ℕ) (payloads : List (List ℕ)) → IsJournal D.meaning self.old birth payloads None →
+            Appends D.meaning self.old self.new result birth payloads }
+        ensures kept { IsKept D.meaning self.new }
         ensures sure { OnOk result (is_unsure self.new ≡ false) }
         ensures ended { IsHandedOut self.new }
         ensures nothing_reserved { reserved self.new ≡ [] }
         ensures area { area_of self.new ≡ area_of self.old }
         ensures birth { birth_of self.new ≡ birth_of self.old }
-        ensures calls { D.calls (disk_of self.new) ≤ D.calls (disk_of self.old) + 4 }
-        ensures unfailed { OnOk result (D.faults (disk_of self.new) ≡ D.faults (disk_of self.old)) }
-        ensures failed { OnErr result (Rose (D.faults (disk_of self.old)) (D.faults (disk_of self.new))) }
-        ensures faults { D.faults (disk_of self.old) ≤ D.faults (disk_of self.new) }
+        ensures calls { D.meaning.calls (disk_of self.new) ≤ D.meaning.calls (disk_of self.old) + 4 }
+        ensures unfailed { OnOk result (D.meaning.faults (disk_of self.new) ≡ D.meaning.faults (disk_of self.old)) }
+        ensures failed { OnErr result (Rose (D.meaning.faults (disk_of self.old)) (D.meaning.faults (disk_of self.new))) }
+        ensures faults { D.meaning.faults (disk_of self.old) ≤ D.meaning.faults (disk_of self.new) }
     {
         if let Err(failed) = write_synced(
             &mut self.disk,
@@ -207,10 +207,11 @@ impl<D: Disk> Journal<D> {
 
     /// Closes the unsure gate for good: a write and a sync. Where nothing is unsure it makes no call. After a fault it is still unsure.
     pub fn repair(&mut self) -> Result<(), DiskFailed>
-        requires kept { IsKept D.tells D.story self.old }
-        ensures repaired { (birth : ℕ) (payloads : List (List ℕ)) (unsure : Option (List ℕ)) → IsJournal D.tells D.story self.old birth payloads unsure →
-            Repairs D.tells D.story self.old self.new result birth payloads unsure }
-        ensures kept { IsKept D.tells D.story self.new }
+        requires kept { IsKept D.meaning self.old }
+        ensures repaired { (birth : ℕ) (payloads : List (List ℕ)) (unsure : Option (List ℕ)) → IsJournal D.meaning self.old birth payloads unsure →
+            Repairs D.meaning self.old self.new result birth payloads unsure }
+        ensures kept { IsKept D.meaning self.new }
+        ensures idle { is_unsure self.old ≡ false → self.new ≡ self.old }
         ensures sure { OnOk result (is_unsure self.new ≡ false) }
         ensures still { OnErr result (is_unsure self.new ≡ is_unsure self.old) }
         ensures left { left self.new ≡ left self.old }
@@ -219,10 +220,10 @@ impl<D: Disk> Journal<D> {
         ensures birth { birth_of self.new ≡ birth_of self.old }
         ensures gate { gate_of self.new ≡ gate_of self.old }
         ensures next_gate { next_gate self.new ≡ next_gate self.old }
-        ensures calls { D.calls (disk_of self.new) ≤ D.calls (disk_of self.old) + 2 }
-        ensures unfailed { OnOk result (D.faults (disk_of self.new) ≡ D.faults (disk_of self.old)) }
-        ensures failed { OnErr result (Rose (D.faults (disk_of self.old)) (D.faults (disk_of self.new))) }
-        ensures faults { D.faults (disk_of self.old) ≤ D.faults (disk_of self.new) }
+        ensures calls { D.meaning.calls (disk_of self.new) ≤ D.meaning.calls (disk_of self.old) + 2 }
+        ensures unfailed { OnOk result (D.meaning.faults (disk_of self.new) ≡ D.meaning.faults (disk_of self.old)) }
+        ensures failed { OnErr result (Rose (D.meaning.faults (disk_of self.old)) (D.meaning.faults (disk_of self.new))) }
+        ensures faults { D.meaning.faults (disk_of self.old) ≤ D.meaning.faults (disk_of self.new) }
     {
         if !self.unsure {
             return Ok(());
@@ -232,9 +233,12 @@ impl<D: Disk> Journal<D> {
         Ok(())
     }
 
-    /// Ends the journal and gives its disk back.
+    /// Ends the journal and gives its disk back. Whatever a stop leaves of it from then on, an opening of that hands out what the journal held,
+    /// under its birth.
     pub fn close(self) -> D
         ensures disk { result ≡ disk_of self }
+        ensures hands_on { (birth : ℕ) (payloads : List (List ℕ)) (unsure : Option (List ℕ)) → IsJournal D.meaning self birth payloads unsure
+            → OnTrue D.meaning.tells (HandsOn (D.meaning.story result) birth payloads unsure) }
     {
         let Journal {
             alloc: _,

@@ -17,10 +17,10 @@ const PICKS_B: u8 = 2;
 
 /// The area that Pick picks, if it holds an octet.
 pub fn read_pick<D: Disk>(disk: &mut D) -> Result<Option<Area>, OpenFault>
-    ensures pick { IfOk result (λ pick. OnTrue D.tells (pick ≡ picked (reads (D.story disk.old)).pick)) }
+    ensures pick { IfOk result (λ pick. OnTrue D.meaning.tells (pick ≡ picked (reads (D.meaning.story disk.old)).pick)) }
     ensures err { IfErr result (λ fault. fault ≡ OpenFault.Disk) }
-    ensures kept { D.story disk.new ≡ D.story disk.old }
-    ensures spares { Spares 2 (D.calls disk.old) (D.calls disk.new) (D.faults disk.old) (D.faults disk.new) result }
+    ensures kept { D.meaning.story disk.new ≡ D.meaning.story disk.old }
+    ensures spares { Spares D.meaning 2 disk.old disk.new result }
 {
     if disk.size(Area::Pick)? == 0 {
         return Ok(None);

@@ -19,7 +19,7 @@ use std::alloc::Global;
 
 /// Does all that the words ask for, but for the line on standard error.
 fn run<H: House>(alloc: Global, words: &[Octets], house: &mut H) -> Ended<H>
-    ensures { Ends H.V.course H.S.files H.S.meaning.faults H.D.meaning H.C.readings
+    ensures { Ends H.V.course H.S.files H.S.faults H.D.meaning H.C.readings
         (configuration_of (codes "door") words.now) (H.rooms house.old) (H.rooms house.new) (H.stock house.old) (H.stock house.new)
         result.status result.failure result.disk (map worker_of result.workers) }
 {
@@ -51,7 +51,7 @@ pub fn door<H: House>(alloc: Global, words: &[Octets], house: &mut H) -> Ended<H
     ensures made { MakesFor result.disk (H.stock house.old) (H.stock house.new) }
 
     // What was read, said and stored, and why not.
-    ensures comes_to { ComesTo H.V.course H.S.files H.S.meaning.faults H.D.meaning H.C.readings
+    ensures comes_to { ComesTo H.V.course H.S.files H.S.faults H.D.meaning H.C.readings
         (configuration_of (codes "door") words.now) (H.rooms house.old) (H.rooms house.new) (H.stock house.old)
         (map worker_of result.workers) result.disk result.failure }
 {

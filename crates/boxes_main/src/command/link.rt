@@ -59,8 +59,8 @@ fn chosen<H: House>(
 ) -> Result<(Settings, u32), Failure>
     ensures rooms { H.rooms house.new ≡ record (H.rooms house.old) { shelf = (H.rooms house.new).shelf } }
     ensures stock { H.stock house.new ≡ H.stock house.old }
-    ensures ok { IfOk result (λ chosen. steps.IsChosenIn H.S.files H.S.meaning.faults name.now id.now (H.rooms house.old).shelf (H.rooms house.new).shelf chosen.0 chosen.1) }
-    ensures err { IfErr result (IsNotLinked H.S.files H.S.meaning.faults H.D.meaning
+    ensures ok { IfOk result (λ chosen. steps.IsChosenIn H.S.files H.S.faults name.now id.now (H.rooms house.old).shelf (H.rooms house.new).shelf chosen.0 chosen.1) }
+    ensures err { IfErr result (IsNotLinked H.S.files H.S.faults H.D.meaning
         (Some (name.now, id.now)) (H.rooms house.old).shelf (H.rooms house.new).shelf (H.stock house.old) None) }
 {
     match read_settings(alloc, house, name) {
@@ -107,7 +107,7 @@ fn serve<H: House>(
 
 /// Does all that the words ask for, but for the line on standard error.
 fn run<H: House>(alloc: Global, words: &[Octets], house: &mut H) -> Ended<H>
-    ensures { steps.EndsLink H.S.files H.S.meaning.faults H.D.meaning H.C.readings H.Di.dealings
+    ensures { steps.EndsLink H.S.files H.S.faults H.D.meaning H.C.readings H.Di.dealings
         (link_words (codes "link") words.now) (H.rooms house.old) (H.rooms house.new) (H.stock house.old) (H.stock house.new)
         result.status result.failure result.disk (map worker_of result.workers) }
 {
@@ -142,7 +142,7 @@ pub fn link_once<H: House>(alloc: Global, words: &[Octets], house: &mut H) -> En
     ensures made { MakesFor result.disk (H.stock house.old) (H.stock house.new) }
 
     // What was read, dialled, heard, said and stored, and why not.
-    ensures comes_to { ComesToLink H.S.files H.S.meaning.faults H.D.meaning H.C.readings H.Di.dealings
+    ensures comes_to { ComesToLink H.S.files H.S.faults H.D.meaning H.C.readings H.Di.dealings
         (link_words (codes "link") words.now) (H.rooms house.old) (H.rooms house.new) (H.stock house.old)
         (map worker_of result.workers) result.disk result.failure }
 {

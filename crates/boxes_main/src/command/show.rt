@@ -44,7 +44,7 @@ fn print<H: House>(alloc: Global, house: &mut H, store: Store<H::D>) -> Ended<H>
 
 /// Does all that the words ask for, but for the line on standard error.
 fn run<H: House>(alloc: Global, words: &[Octets], house: &mut H) -> Ended<H>
-    ensures { EndsShow H.Ou.course H.S.files H.S.meaning.faults H.D.meaning
+    ensures { EndsShow H.Ou.course H.S.files H.S.faults H.D.meaning
         (configuration_of (codes "show") words.now) (H.rooms house.old) (H.rooms house.new) (H.stock house.old) (H.stock house.new)
         result.status result.failure result.disk (map worker_of result.workers) }
 {
@@ -72,7 +72,7 @@ pub fn show<H: House>(alloc: Global, words: &[Octets], house: &mut H) -> Ended<H
     ensures made { MakesFor result.disk (H.stock house.old) (H.stock house.new) }
 
     // What was read and printed, and why not.
-    ensures comes_to { ComesToShow H.Ou.course H.S.files H.S.meaning.faults H.D.meaning
+    ensures comes_to { ComesToShow H.Ou.course H.S.files H.S.faults H.D.meaning
         (configuration_of (codes "show") words.now) (H.rooms house.old) (H.rooms house.new) (H.stock house.old) result.disk result.failure }
 {
     let ended = run(alloc, words, house);

@@ -37,11 +37,7 @@ impl Gate {
             Recorded::Accept(accept) => self.check_parts(accept.parts.as_slice()),
             Recorded::Answered(answered) => self.check_parts(answered.parts.as_slice()),
             Recorded::Arrived(_) => self.check_arrival(),
-            Recorded::Acked(_)
-            | Recorded::Rejected(_)
-            | Recorded::Reported(_)
-            | Recorded::Called(_)
-            | Recorded::CallDropped(_) => self.check_entries(),
+            _ => self.check_entries(),
         }
     }
 

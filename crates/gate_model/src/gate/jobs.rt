@@ -2,7 +2,7 @@
 
 ghost use Rattle.std.specs.Prelude.{◌≡◌, ℕ, ◌+◌, ◌<◌, ◌≤◌, true, false, min, IfSome};
 ghost use Rattle.gate_model.specs.Fold.{calls, counts_entry, ends_job, takes_job, returns_job, most_returns};
-ghost use Rattle.gate_model.specs.Gate.{model_of, rules_of, IsGate, Becomes};
+ghost use Rattle.gate_model.specs.Gate.{model_of, rules_of, Becomes};
 ghost use Rattle.gate_model.specs.Lawful.{most_entries};
 ghost use Rattle.gate_model.specs.Numbers.{Rise, with_change};
 
@@ -37,10 +37,8 @@ fn put_returned(jobs: &mut Table<Job>, job: u64)
 impl Gate {
     /// A URL, where there is one, is to be called. It takes no memory.
     pub(crate) fn call(&mut self, url: Option<Octets>)
-        requires whole { IsGate self.old }
         requires room { IfSome url (λ _. 1 ≤ self.old.jobs.room) }
         requires counted { (model_of self.old).last_job < (model_of self.old).entries }
-        ensures whole { IsGate self.new }
         ensures rules { rules_of self.new ≡ rules_of self.old }
         ensures state { model_of self.new ≡ calls url (model_of self.old) }
     {
@@ -60,7 +58,6 @@ impl Gate {
 
     /// The URL of a job was called.
     pub(crate) fn end_called(&mut self, job: u64) -> Reply
-        requires whole { IsGate self.old }
         requires few { (model_of self.old).entries < most_entries }
         ensures state { Becomes self.old self.new (counts_entry (record (ends_job job (model_of self.old)) { called = (model_of self.old).called + 1 })) }
         ensures reply { result ≡ Reply.Noted true }
@@ -73,7 +70,6 @@ impl Gate {
 
     /// The URL of a job won't be called.
     pub(crate) fn end_dropped(&mut self, job: u64) -> Reply
-        requires whole { IsGate self.old }
         requires few { (model_of self.old).entries < most_entries }
         ensures state { Becomes self.old self.new (counts_entry (record (ends_job job (model_of self.old)) { dropped = (model_of self.old).dropped + 1 })) }
         ensures reply { result ≡ Reply.Noted true }
@@ -86,7 +82,6 @@ impl Gate {
 
     /// A job is done with.
     fn end_job(&mut self, job: u64)
-        requires { IsGate self.old }
         ensures { Becomes self.old self.new (ends_job job (model_of self.old)) }
     {
         let _ = self.jobs.end(job);
@@ -94,7 +89,6 @@ impl Gate {
 
     /// A job is taken.
     pub(crate) fn take_job(&mut self, job: u64)
-        requires { IsGate self.old }
         ensures { Becomes self.old self.new (takes_job job (model_of self.old)) }
     {
         put_taken(&mut self.jobs, job);
@@ -102,7 +96,6 @@ impl Gate {
 
     /// A job is given back.
     pub(crate) fn return_job(&mut self, job: u64)
-        requires { IsGate self.old }
         ensures { Becomes self.old self.new (returns_job job (model_of self.old)) }
     {
         put_returned(&mut self.jobs, job);

@@ -2,7 +2,7 @@
 
 ghost use Rattle.std.specs.Prelude.{◌≡◌, ℕ};
 ghost use Rattle.gate_model.specs.Fold.{leases, leases_arrival};
-ghost use Rattle.gate_model.specs.Gate.{model_of, IsGate, Becomes, lease_under};
+ghost use Rattle.gate_model.specs.Gate.{model_of, Becomes, lease_under};
 ghost use Rattle.gate_model.specs.Lawful.{IsFree};
 ghost use Rattle.gate_model.specs.Numbers.{Has, Rise, with_change};
 
@@ -39,7 +39,6 @@ fn put_arrival_lease(arrivals: &mut Table<Arrival>, arrival: u64, leased: bool)
 impl Gate {
     /// A link takes a message that nobody has taken.
     pub(crate) fn take_message(&mut self, link: u32, message: u64)
-        requires whole { IsGate self.old }
         requires free { IsFree (model_of self.old) message }
         ensures { Becomes self.old self.new (leases message (Some link) (model_of self.old)) }
     {
@@ -49,7 +48,6 @@ impl Gate {
 
     /// A message is given back, and its link, where one has taken it, has one less in flight.
     pub(crate) fn return_message(&mut self, message: u64)
-        requires whole { IsGate self.old }
         requires held { Has self.old.waiting.pairs message }
         ensures { Becomes self.old self.new (leases message None (model_of self.old)) }
     {
@@ -59,7 +57,6 @@ impl Gate {
 
     /// An arrival is taken, or given back.
     pub(crate) fn lease_arrival(&mut self, arrival: u64, leased: bool)
-        requires { IsGate self.old }
         ensures { Becomes self.old self.new (leases_arrival arrival leased (model_of self.old)) }
     {
         put_arrival_lease(&mut self.arrivals, arrival, leased);

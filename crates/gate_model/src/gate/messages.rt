@@ -3,7 +3,7 @@
 ghost use Rattle.std.specs.Prelude.{◌≡◌, ◌+◌, ◌<◌, ◌≤◌, ◌^◌, ◌++◌, fold, map, vec_len};
 ghost use Rattle.numbered_table.specs.Pairs.{AllBelow, without};
 ghost use Rattle.gate_model.specs.Fold.{ends, sms_of, unleased};
-ghost use Rattle.gate_model.specs.Gate.{model_of, IsGate, Becomes};
+ghost use Rattle.gate_model.specs.Gate.{model_of, Becomes};
 ghost use Rattle.gate_model.specs.Numbers.{Has, numbered_from};
 
 use crate::gate::links::lower;
@@ -37,7 +37,6 @@ pub(crate) fn end_all(arrivals: &mut Table<Arrival>, numbers: &[u64])
 impl Gate {
     /// A message no longer waits, and its link, where one has taken it, has one less in flight. The message is handed out.
     pub(crate) fn end_message(&mut self, message: u64) -> Option<Sms>
-        requires whole { IsGate self.old }
         requires held { Has self.old.waiting.pairs message }
         ensures state { Becomes self.old self.new (ends message (model_of self.old)) }
         ensures sms { result ≡ sms_of message (model_of self.old) }

@@ -2,7 +2,7 @@
 
 ghost use Rattle.std.specs.Prelude.{◌≡◌, ◌<◌, length, find, fold, option_map, None, Some};
 ghost use Rattle.numbered_table.specs.Rows.{pairs_of};
-ghost use Rattle.gate_model.specs.Gate.{model_of, rules_of, IsGate};
+ghost use Rattle.gate_model.specs.Gate.{model_of, rules_of};
 ghost use Rattle.gate_model.specs.NextSteps.{offers, is_free, better as better_row};
 ghost use Rattle.gate_model.specs.Routing.{may_take as may_go, goes_by, next, next_arrival, next_job, is_due};
 
@@ -70,7 +70,6 @@ impl Gate {
     /// The message that a link takes next: the least number of those that wait, that no link has taken, that may be sent by now, and
     /// that go by this link. `None` exactly where there is none. It takes no memory.
     pub fn next_for(&self, link: u32, now: u64) -> Option<u64>
-        requires { IsGate self.now }
         ensures { result ≡ next (rules_of self.now) (model_of self.now) link now }
     {
         self.first_offered(self.waiting.rows(), link, now)
@@ -94,7 +93,6 @@ impl Gate {
 
     /// The number of the first place whose message a link may take.
     fn first_offered(&self, rows: &[Row<Waiting>], link: u32, now: u64) -> Option<u64>
-        requires { IsGate self.now }
         ensures { result ≡ option_map (λ row. row.number) (find (offers (rules_of self.now) (model_of self.now) link now) rows.now) }
     {
         rows.iter()
@@ -104,7 +102,6 @@ impl Gate {
 
     /// Whether a link may take the message of a place, where there is one.
     fn offers_at(&self, row: &Row<Waiting>, link: u32, now: u64) -> bool
-        requires { IsGate self.now }
         ensures { result ≡ offers (rules_of self.now) (model_of self.now) link now row.now }
     {
         match &row.value {
@@ -115,7 +112,6 @@ impl Gate {
 
     /// Whether a link may take a message.
     fn may_take(&self, waiting: &Waiting, link: u32, now: u64) -> bool
-        requires { IsGate self.now }
         ensures { result ≡ may_go (rules_of self.now) (model_of self.now) link now waiting.now }
     {
         waiting.lease.is_none() && is_due_at(&waiting.sms, now) && self.goes_by(&waiting.sms, link)
@@ -123,7 +119,6 @@ impl Gate {
 
     /// Whether a message goes by a link.
     fn goes_by(&self, sms: &Sms, link: u32) -> bool
-        requires { IsGate self.now }
         ensures { result ≡ goes_by (rules_of self.now) (model_of self.now) sms.now link }
     {
         match assign(&self.rules, &self.up, &self.flight, sms) {

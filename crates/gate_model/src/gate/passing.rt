@@ -2,7 +2,7 @@
 
 ghost use Rattle.std.specs.Prelude.{◌≡◌, slice_set};
 ghost use Rattle.gate_model.specs.Fold.{passes};
-ghost use Rattle.gate_model.specs.Gate.{model_of, rules_of, IsGate, Becomes};
+ghost use Rattle.gate_model.specs.Gate.{model_of, rules_of, Becomes};
 ghost use Rattle.gate_model.specs.Lawful.{MayPass};
 
 use crate::Gate;
@@ -12,9 +12,7 @@ use gate_entries::Passing;
 impl Gate {
     /// Does an entry that isn't recorded. It takes no memory.
     pub fn pass(&mut self, entry: Passing)
-        requires whole { IsGate self.old }
         requires lawful { MayPass (rules_of self.old) (model_of self.old) entry }
-        ensures whole { IsGate self.new }
         ensures rules { rules_of self.new ≡ rules_of self.old }
         ensures state { model_of self.new ≡ passes entry (model_of self.old) }
     {
@@ -32,7 +30,6 @@ impl Gate {
 
     /// A link is up, or down.
     fn set_link(&mut self, link: u32, is_up: bool)
-        requires { IsGate self.old }
         ensures { Becomes self.old self.new (record (model_of self.old) { up = slice_set (model_of self.old).up link is_up }) }
     {
         set_up(&mut self.up, link, is_up);

@@ -3,7 +3,7 @@
 ghost use Rattle.std.specs.Prelude.{◌≡◌, ◌<◌, ◌≤◌, ◌+◌, true, length};
 ghost use Rattle.gate_entries.specs.Limits.{most_messages};
 ghost use Rattle.gate_model.specs.Fold.{recorded, does, moves, counts_entry, accepts, answers, arrives};
-ghost use Rattle.gate_model.specs.Gate.{model_of, rules_of, birth_of, entry_of, IsGate, Becomes, HasRoom, HasRoomFor};
+ghost use Rattle.gate_model.specs.Gate.{model_of, rules_of, birth_of, entry_of, Becomes, HasRoom, HasRoomFor};
 ghost use Rattle.gate_model.specs.Lawful.{IsSound, most_entries};
 ghost use Rattle.gate_model.specs.Replies.{reply_to, is_queued as queued_first};
 
@@ -20,11 +20,9 @@ pub(crate) const MATCHED: Reply = Reply::Noted { matched: true };
 impl Gate {
     /// Does an entry that is recorded, and says what is replied to it. It takes no memory.
     pub fn apply(&mut self, ready: Ready) -> Reply
-        requires whole { IsGate self.old }
         requires room { HasRoom self.old ready }
         requires few { (model_of self.old).entries < most_entries }
         requires sound { IsSound (model_of self.old) (entry_of ready) }
-        ensures whole { IsGate self.new }
         ensures rules { rules_of self.new ≡ rules_of self.old }
         ensures state { model_of self.new ≡ does (birth_of ready) (model_of self.old) (recorded (entry_of ready)) }
         ensures reply { result ≡ reply_to (rules_of self.old) (model_of self.old) (entry_of ready) }
@@ -41,7 +39,6 @@ impl Gate {
 
     /// Does an entry that is recorded, but for the URL that it calls.
     fn move_by(&mut self, entry: Recorded) -> Reply
-        requires whole { IsGate self.old }
         requires room { HasRoomFor self.old entry }
         requires few { (model_of self.old).entries < most_entries }
         requires sound { IsSound (model_of self.old) entry }
@@ -68,7 +65,6 @@ impl Gate {
 
     /// Whether there is a first message that no link that is up suits.
     fn is_queued(&self, parts: &[Sms]) -> bool
-        requires { IsGate self.now }
         ensures { result ≡ queued_first (rules_of self.now) (model_of self.now) parts.now }
     {
         match parts {
@@ -79,7 +75,6 @@ impl Gate {
 
     /// Messages were accepted.
     fn accept(&mut self, parts: Items<Sms>, queued: bool) -> Reply
-        requires whole { IsGate self.old }
         requires room { length parts ≤ self.old.waiting.room }
         requires few { (model_of self.old).entries < most_entries }
         requires short { length parts ≤ most_messages }
@@ -101,7 +96,6 @@ impl Gate {
 
     /// Messages from centres were dealt with, and answered by these.
     fn answer(&mut self, answered: Answered, queued: bool) -> Reply
-        requires whole { IsGate self.old }
         requires room { length answered.parts ≤ self.old.waiting.room }
         requires few { (model_of self.old).entries < most_entries }
         requires short { length answered.parts ≤ most_messages }
@@ -114,7 +108,6 @@ impl Gate {
 
     /// Messages from centres were dealt with.
     fn end_arrivals(&mut self, arrivals: &[u64])
-        requires { IsGate self.old }
         ensures state { Becomes self.old self.new (answers arrivals.now (model_of self.old)) }
         ensures room { self.new.waiting.room ≡ self.old.waiting.room }
     {
@@ -123,7 +116,6 @@ impl Gate {
 
     /// A message came from a centre.
     fn arrive(&mut self, sms: Sms) -> Reply
-        requires whole { IsGate self.old }
         requires room { 1 ≤ self.old.arrivals.room }
         requires few { (model_of self.old).entries < most_entries }
         ensures state { Becomes self.old self.new (counts_entry (arrives sms (model_of self.old))) }

@@ -4,7 +4,7 @@ ghost use Rattle.std.specs.Prelude.{◌≡◌, ◌<◌, ◌+◌, true, [], is_so
 ghost use Rattle.dlr_table.specs.Reports.{spare};
 ghost use Rattle.gate_entries.specs.declared.recorded.Recorded.TheVariants as entry;
 ghost use Rattle.gate_model.specs.Fold.{counts_entry, acknowledges, ends, sms_of, rejects, hears, misses, first_under, closes, awaits, asked_by, is_awaited as is_to_be_awaited, is_last as is_last_kind};
-ghost use Rattle.gate_model.specs.Gate.{model_of, IsGate, Becomes, HasRoomFor};
+ghost use Rattle.gate_model.specs.Gate.{model_of, Becomes, HasRoomFor};
 ghost use Rattle.gate_model.specs.Lawful.{most_entries};
 ghost use Rattle.gate_model.specs.Numbers.{Has};
 
@@ -39,7 +39,6 @@ fn without_body(alloc: Global, sms: Sms) -> Sms
 impl Gate {
     /// A centre took a message.
     pub(crate) fn acknowledge(&mut self, acked: &Acked) -> Reply
-        requires whole { IsGate self.old }
         requires few { (model_of self.old).entries < most_entries }
         requires held { Has self.old.waiting.pairs acked.now.message }
         requires room { HasRoomFor self.old (entry.Acked acked.now) }
@@ -55,7 +54,6 @@ impl Gate {
 
     /// A message that a centre took no longer waits, and is counted. It is handed out.
     fn take_out(&mut self, message: u64) -> Option<Sms>
-        requires whole { IsGate self.old }
         requires few { (model_of self.old).entries < most_entries }
         requires held { Has self.old.waiting.pairs message }
         ensures state { Becomes self.old self.new (counts_entry (record (ends message (model_of self.old)) { acked = (model_of self.old).acked + 1 })) }
@@ -70,7 +68,6 @@ impl Gate {
 
     /// A message that its centre took is awaited, where it is to be.
     fn await_report(&mut self, acked: &Acked, sms: Sms)
-        requires whole { IsGate self.old }
         requires room { IsTrue (is_to_be_awaited acked.now.foreign sms) → 0 < spare self.old.reports acked.now.smsc acked.now.foreign }
         ensures { Becomes self.old self.new (awaits acked.now.smsc acked.now.foreign (asked_by acked.now (Some sms)) (model_of self.old)) }
     {
@@ -87,7 +84,6 @@ impl Gate {
 
     /// A message was given up.
     pub(crate) fn reject(&mut self, message: u64) -> Reply
-        requires whole { IsGate self.old }
         requires few { (model_of self.old).entries < most_entries }
         requires held { Has self.old.waiting.pairs message }
         ensures state { Becomes self.old self.new (counts_entry (rejects message (model_of self.old))) }
@@ -101,7 +97,6 @@ impl Gate {
 
     /// A centre reported on a message: on the oldest under its key, where there is one.
     pub(crate) fn hear_report(&mut self, reported: &Reported) -> Reply
-        requires whole { IsGate self.old }
         requires few { (model_of self.old).entries < most_entries }
         ensures state { Becomes self.old self.new (counts_entry (hears reported.now (first_under reported.now (model_of self.old)) (model_of self.old))) }
         ensures reply { result ≡ Reply.Noted (is_some (first_under reported.now (model_of self.old))) }
@@ -126,7 +121,6 @@ impl Gate {
 
     /// A report belonged to no message.
     fn miss(&mut self)
-        requires whole { IsGate self.old }
         requires few { (model_of self.old).entries < most_entries }
         ensures { Becomes self.old self.new (counts_entry (misses (model_of self.old))) }
     {
@@ -136,7 +130,6 @@ impl Gate {
 
     /// A report belonged to a message.
     fn hear_matched(&mut self, reported: &Reported)
-        requires whole { IsGate self.old }
         requires few { (model_of self.old).entries < most_entries }
         requires some { IsSome (first_under reported.now (model_of self.old)) }
         ensures { Becomes self.old self.new (counts_entry (hears reported.now (first_under reported.now (model_of self.old)) (model_of self.old))) }
@@ -150,7 +143,6 @@ impl Gate {
 
     /// A report belonged to a message, and no other follows.
     fn hear_last(&mut self, reported: &Reported)
-        requires whole { IsGate self.old }
         requires few { (model_of self.old).entries < most_entries }
         requires some { IsSome (first_under reported.now (model_of self.old)) }
         ensures { Becomes self.old self.new (counts_entry (closes reported.now.smsc reported.now.foreign (model_of self.old))) }
@@ -161,7 +153,6 @@ impl Gate {
 
     /// The oldest message under the key of a report is no longer awaited.
     fn close_report(&mut self, reported: &Reported)
-        requires whole { IsGate self.old }
         requires some { IsSome (first_under reported.now (model_of self.old)) }
         ensures { Becomes self.old self.new (closes reported.now.smsc reported.now.foreign (model_of self.old)) }
     {
@@ -172,7 +163,6 @@ impl Gate {
 
     /// One more entry was recorded.
     fn count_entry(&mut self)
-        requires whole { IsGate self.old }
         requires few { (model_of self.old).entries < most_entries }
         ensures { Becomes self.old self.new (counts_entry (model_of self.old)) }
     {

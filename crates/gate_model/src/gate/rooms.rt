@@ -58,11 +58,7 @@ impl Gate {
             Recorded::Acked(acked) => self.url_of_acked(acked, birth),
             Recorded::Rejected(rejected) => self.url_of_rejected(rejected, birth),
             Recorded::Reported(reported) => self.url_of_reported(reported, birth),
-            Recorded::Accept(_)
-            | Recorded::Arrived(_)
-            | Recorded::Answered(_)
-            | Recorded::Called(_)
-            | Recorded::CallDropped(_) => Ok(None),
+            _ => Ok(None),
         }
     }
 
@@ -122,10 +118,7 @@ impl Gate {
             Recorded::Answered(answered) => self.waiting.reserve(answered.parts.len()),
             Recorded::Arrived(_) => self.arrivals.reserve(1),
             Recorded::Acked(acked) => self.reserve_report(acked),
-            Recorded::Rejected(_)
-            | Recorded::Reported(_)
-            | Recorded::Called(_)
-            | Recorded::CallDropped(_) => Ok(()),
+            _ => Ok(()),
         }
     }
 

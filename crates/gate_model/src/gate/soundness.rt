@@ -64,12 +64,11 @@ impl Gate {
                     && is_time(rejected.time)
             }
             Recorded::Reported(reported) => is_time(reported.time),
-            Recorded::Arrived(_) => true,
+            Recorded::Arrived(arrived) => arrived.sms.smsc.as_slice() == arrived.smsc.as_slice(),
             Recorded::Answered(answered) => {
                 self.are_arrivals(answered.arrivals.as_slice()) && is_time(answered.time)
             }
-            Recorded::Called(called) => self.holds_job(called.job),
-            Recorded::CallDropped(dropped) => self.holds_job(dropped.job),
+            _ => self.holds_job(entry.ended_job()),
         }
     }
 
@@ -79,10 +78,14 @@ impl Gate {
         self.waiting.get(message).is_some()
     }
 
-    fn holds_job(&self, job: u64) -> bool
-        ensures { result ≡ is_held job (model_of self.now).jobs }
+    /// Whether there is a job, and it is held.
+    fn holds_job(&self, job: Option<u64>) -> bool
+        ensures { result ≡ spec.holds_job (model_of self.now) job }
     {
-        self.jobs.get(job).is_some()
+        match job {
+            Some(job) => self.jobs.get(job).is_some(),
+            None => false,
+        }
     }
 
     fn holds_arrival(&self, arrival: u64) -> bool

@@ -26,11 +26,11 @@ pub(crate) fn load<D: Disk>(
     rules: Rules,
     journal: Journal<D>,
 ) -> Result<Store<D>, (D, StoreFault)>
-    requires journal { IsJournal D.tells D.story journal (birth_of journal) (left journal) None }
+    requires journal { IsJournal D.meaning journal (birth_of journal) (left journal) None }
     requires gate { next_gate journal ≡ 16 }
     requires few_links { length rules.links < 2 ^ 32 }
-    ensures ok { IfOk result (Loads D.tells D.story rules journal) }
-    ensures err { IfErr result (λ fault. LoadsNone D.tells D.story rules journal fault.0 fault.1) }
+    ensures ok { IfOk result (Loads D.meaning rules journal) }
+    ensures err { IfErr result (λ fault. LoadsNone D.meaning rules journal fault.0 fault.1) }
 {
     let mut journal = journal;
     let Ok(loader) = Loader::new(alloc, rules, journal.birth()) else {

@@ -1,6 +1,6 @@
 use Rattle.std.proofs.Common.{arith}
 use Rattle.exact_octets.proofs.Fronts.{lies_within, reads_all}
-use Rattle.gate_entries.proofs.Rows.{accept_reads}
+use Rattle.gate_entries.proofs.Entries.{accept_reads}
 use Rattle.gate_entries.proofs.accept.read_accept.Goals as goal
 
 pub told_all-requires : goal.told_all-requires

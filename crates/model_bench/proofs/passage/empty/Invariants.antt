@@ -1,6 +1,6 @@
-use Rattle.gate_model.specs.Gate.{IsGate}
+use Rattle.std.specs.Prelude.{⊤}
 use Rattle.model_bench.proofs.passage.empty.Given as goal
 
 -- it is a gate still
 abbrev pub invariant-loop-turn : goal.invariant-loop-turn
-invariant-loop-turn l = IsGate l.gate
+invariant-loop-turn l = ⊤

@@ -4,7 +4,7 @@ use Rattle.model_runs.proofs.stores.come_up.Goals as goal
 
 pub returns-clause-kept : goal.returns-clause-kept
 returns-clause-kept g c =
-    (passes_keeps g.D.Disk.tells g.D.Disk.story g.D.Disk.faults g.D.Disk.calls c.args.store.now c.pass.new.self (Up c.args.link) c.requires.kept c.pass.ensures).opened
+    (passes_keeps g.D.Disk.meaning c.args.store.now c.pass.new.self (Up c.args.link) c.requires.kept c.pass.ensures).opened
 
 pub returns-clause-ruled : goal.returns-clause-ruled
 returns-clause-ruled g c = c.pass.ensures.ruled

@@ -4,4 +4,4 @@ use Rattle.model_runs.proofs.stores.put_acts.Given as goal
 
 -- it is a store still, whose links have their ids
 abbrev pub invariant-loop : goal.invariant-loop
-invariant-loop g l = IsOpen g.D.Disk.tells g.D.Disk.story l.store × HaveIds (rules_in l.store)
+invariant-loop g l = IsOpen g.D.Disk.meaning l.store × HaveIds (rules_in l.store)

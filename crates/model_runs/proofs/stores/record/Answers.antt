@@ -3,7 +3,7 @@ use Rattle.model_runs.proofs.stores.record.Goals as goal
 
 pub returns-clause-kept : goal.returns-clause-kept
 returns-clause-kept g c =
-    (performs_keeps g.D.Disk.tells g.D.Disk.story g.D.Disk.faults g.D.Disk.calls c.args.store.now c.perform.new.self c.args.entry c.perform.result c.requires.kept
+    (performs_keeps g.D.Disk.meaning c.args.store.now c.perform.new.self c.args.entry c.perform.result c.requires.kept
     c.perform.ensures).opened
 
 pub returns-clause-ruled : goal.returns-clause-ruled

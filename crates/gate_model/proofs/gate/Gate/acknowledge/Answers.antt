@@ -6,11 +6,13 @@ use Rattle.gate_model.proofs.AwaitedLemmas.{awaits_nothing, becomes_both, become
 use Rattle.gate_model.proofs.RecordingLemmas.{acknowledged}
 use Rattle.gate_model.proofs.gate.Gate.acknowledge.Goals as goal
 
-pub await_report-requires-clause-room : goal.await_report-requires-clause-room
-await_report-requires-clause-room c =
+pub await_report-requires : goal.await_report-requires
+await_report-requires c =
     let acked = c.args.acked.now in
-    λ asked. subst (λ (r : Reports). 0 < spare r acked.smsc acked.foreign) (sym c.take_out-sms.ensures.reports)
-    (room_if_awaited acked (model_of c.args.self.now) c.in-Some.sms _ (sym c.in-Some.is ∙ c.take_out-sms.ensures.sms) c.requires.room asked)
+    record {
+      room = λ asked. subst (λ (r : Reports). 0 < spare r acked.smsc acked.foreign) (sym c.take_out-sms.ensures.reports)
+          (room_if_awaited acked (model_of c.args.self.now) c.in-Some.sms _ (sym c.in-Some.is ∙ c.take_out-sms.ensures.sms) c.requires.room asked);
+    }
 
 pub returns-in-Some-clause-state : goal.returns-in-Some-clause-state
 returns-in-Some-clause-state c =

@@ -6,9 +6,8 @@ pub call-requires : goal.call-requires
 call-requires c =
     let moved = c.move_by-reply.ensures.state in
     record {
-      whole = moved.whole;
       room = still_room c.args.ready.url _ _ moved.places c.requires.room.job;
-      counted = fewer_jobs (entry_of c.args.ready) (model_of c.args.self.now) _ moved.holds c.requires.whole.bounded.last_job;
+      counted = fewer_jobs (entry_of c.args.ready) (model_of c.args.self.now) _ moved.holds c.args.self.now.whole.bounded.last_job;
     }
 
 pub returns-clause-state : goal.returns-clause-state

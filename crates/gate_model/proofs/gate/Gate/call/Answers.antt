@@ -6,14 +6,17 @@ use Rattle.gate_model.proofs.WholeLemmas.{called_none, called_one, whole-calls}
 use Rattle.gate_model.proofs.gate.Gate.call.Goals as goal
 
 pub push-requires-clause-above : goal.push-requires-clause-above
-push-requires-clause-above c = AllBelow-Rise 1 (c.args.self.now.counts.last_job + 1) c.args.self.now.jobs.pairs c.requires.whole.order.jobs
+push-requires-clause-above c = AllBelow-Rise 1 (c.args.self.now.counts.last_job + 1) c.args.self.now.jobs.pairs c.args.self.now.whole.order.jobs
 
-pub returns-in-Some-clause-whole : goal.returns-in-Some-clause-whole
-returns-in-Some-clause-whole c =
+pub invariant_of-self : goal.invariant_of-self
+invariant_of-self c =
     let old = c.args.self.now in
-    subst (λ (s : State). IsWhole old.rules old.flight.items s)
-    (sym (called_one (model_of old) c.args.url c.in-Some.url c.push.new.self.pairs c.in-Some.is c.push.ensures.pairs))
-    (whole-calls _ _ _ c.requires.whole c.args.url c.requires.counted)
+    record {
+      whole =
+          subst (λ (s : State). IsWhole old.rules old.flight.items s)
+          (sym (called_one (model_of old) c.args.url c.in-Some.url c.push.new.self.pairs c.in-Some.is c.push.ensures.pairs))
+          (whole-calls _ _ _ c.args.self.now.whole c.args.url c.requires.counted);
+    }
 
 pub returns-in-Some-clause-state : goal.returns-in-Some-clause-state
 returns-in-Some-clause-state c = called_one (model_of c.args.self.now) c.args.url c.in-Some.url c.push.new.self.pairs c.in-Some.is c.push.ensures.pairs

@@ -5,8 +5,8 @@ use Rattle.gate_model.specs.State.{State}
 use Rattle.gate_model.proofs.AwaitedLemmas.{becomes_both, becomes_same}
 use Rattle.gate_model.proofs.gate.Gate.hear_last.Goals as goal
 
-pub count_entry-requires-clause-few : goal.count_entry-requires-clause-few
-count_entry-requires-clause-few c = subst (λ (s : State). s.entries < most_entries) (sym c.close_report.ensures.holds) c.requires.few
+pub count_entry-requires : goal.count_entry-requires
+count_entry-requires c = record { few = subst (λ (s : State). s.entries < most_entries) (sym c.close_report.ensures.holds) c.requires.few }
 
 pub returns : goal.returns
 returns c =

@@ -1,6 +1,7 @@
-use Rattle.std.proofs.Common.{◌≡◌, ◌<◌, true, false, sym, ◌∙◌, subst}
+use Rattle.std.proofs.Common.{◌≡◌, ◌<◌, true, false, refl, sym, ◌∙◌, subst}
+use Rattle.gate_model.specs.Gate.{model_of}
 use Rattle.dlr_table.specs.Reports.{spare}
-use Rattle.gate_model.proofs.AwaitedLemmas.{keeps_reports, on_ok_weaker}
+use Rattle.gate_model.proofs.AwaitedLemmas.{same_state, on_ok_weaker}
 use Rattle.gate_model.proofs.gate.Gate.reserve_report.Goals as goal
 
 pub returns-then-is_report_awaited-clause-room : goal.returns-then-is_report_awaited-clause-room
@@ -11,7 +12,10 @@ returns-then-is_report_awaited-clause-room c =
     c.reserve.ensures.ok
 
 pub returns-then-is_report_awaited-clause-state : goal.returns-then-is_report_awaited-clause-state
-returns-then-is_report_awaited-clause-state c = keeps_reports c.args.self.now c.reserve.new.self c.reserve.ensures.lists c.reserve.ensures.count
+returns-then-is_report_awaited-clause-state c = record {
+  rules = refl;
+  holds = same_state (model_of c.args.self.now) c.args.self.now.reports c.reserve.new.self c.reserve.ensures.lists c.reserve.ensures.count;
+}
 
 pub returns-else-is_report_awaited-clause-room : goal.returns-else-is_report_awaited-clause-room
 returns-else-is_report_awaited-clause-room c = λ asked.

@@ -7,39 +7,30 @@ use Rattle.gate_store.proofs.store.Store.append.Goals as goal
 
 pub returns-in-Ok : goal.returns-in-Ok
 returns-in-Ok g c =
-    let tells = g.D.Disk.tells in
-    let story = g.D.Disk.story in
-    let faults = g.D.Disk.faults in
-    let calls = g.D.Disk.calls in
+    let meaning = g.D.Disk.meaning in
     let old = c.args.self.now in
     let a = c.append in
     let new = record old { journal = a.new.self; gate = c.apply.new.self } in
-    commits_ok tells story faults calls old new (entry_of c.args.ready) c.requires.kept c.requires.sure c.requires.reserved c.requires.may c.requires.few
-    c.apply.ensures.rules a.ensures.birth a.ensures.ended c.apply.ensures.whole a.ensures.faults a.ensures.calls
-    tt c.apply.result (appends_as tells story old.journal a.new.self a.result (Ok tt) c.in-Ok.is a.ensures.appended) c.requires.sure (c.apply.ensures.state ∙ ap (λ b. does b (state_in old) (recorded (entry_of c.args.ready))) c.requires.born) c.apply.ensures.reply c.in-Ok.ensures.unfailed
+    commits_ok meaning old new (entry_of c.args.ready) c.requires.kept c.requires.sure c.requires.reserved c.requires.may c.requires.few
+    c.apply.ensures.rules a.ensures.birth a.ensures.ended c.apply.new.self.whole a.ensures.faults a.ensures.calls
+    tt c.apply.result (appends_as meaning old.journal a.new.self a.result (Ok tt) c.in-Ok.is a.ensures.appended) c.requires.sure (c.apply.ensures.state ∙ ap (λ b. does b (state_in old) (recorded (entry_of c.args.ready))) c.requires.born) c.apply.ensures.reply c.in-Ok.ensures.unfailed
 
 pub returns-then-unsure : goal.returns-then-unsure
 returns-then-unsure g c =
-    let tells = g.D.Disk.tells in
-    let story = g.D.Disk.story in
-    let faults = g.D.Disk.faults in
-    let calls = g.D.Disk.calls in
+    let meaning = g.D.Disk.meaning in
     let old = c.args.self.now in
     let a = c.append in
     let new = record old { journal = a.new.self; unsure = Some c.into_entry.result } in
-    commits_err tells story faults calls old new (entry_of c.args.ready) c.requires.kept c.requires.sure c.requires.reserved c.requires.may c.requires.few
+    commits_err meaning old new (entry_of c.args.ready) c.requires.kept c.requires.sure c.requires.reserved c.requires.may c.requires.few
     refl a.ensures.birth a.ensures.ended c.requires.kept.2.whole a.ensures.faults a.ensures.calls
-    c.in-Err.failed true (appends_as tells story old.journal a.new.self a.result (Err c.in-Err.failed) c.in-Err.is a.ensures.appended) (sym c.unsure.ensures ∙ c.if-unsure.true) (ap Some c.into_entry.ensures) refl c.in-Err.ensures.failed
+    c.in-Err.failed true (appends_as meaning old.journal a.new.self a.result (Err c.in-Err.failed) c.in-Err.is a.ensures.appended) (sym c.unsure.ensures ∙ c.if-unsure.true) (ap Some c.into_entry.ensures) refl c.in-Err.ensures.failed
 
 pub returns-else-unsure : goal.returns-else-unsure
 returns-else-unsure g c =
-    let tells = g.D.Disk.tells in
-    let story = g.D.Disk.story in
-    let faults = g.D.Disk.faults in
-    let calls = g.D.Disk.calls in
+    let meaning = g.D.Disk.meaning in
     let old = c.args.self.now in
     let a = c.append in
     let new = record old { journal = a.new.self } in
-    commits_err tells story faults calls old new (entry_of c.args.ready) c.requires.kept c.requires.sure c.requires.reserved c.requires.may c.requires.few
+    commits_err meaning old new (entry_of c.args.ready) c.requires.kept c.requires.sure c.requires.reserved c.requires.may c.requires.few
     refl a.ensures.birth a.ensures.ended c.requires.kept.2.whole a.ensures.faults a.ensures.calls
-    c.in-Err.failed false (appends_as tells story old.journal a.new.self a.result (Err c.in-Err.failed) c.in-Err.is a.ensures.appended) (sym c.unsure.ensures ∙ c.if-unsure.false) c.requires.sure refl c.in-Err.ensures.failed
+    c.in-Err.failed false (appends_as meaning old.journal a.new.self a.result (Err c.in-Err.failed) c.in-Err.is a.ensures.appended) (sym c.unsure.ensures ∙ c.if-unsure.false) c.requires.sure refl c.in-Err.ensures.failed

@@ -1,10 +1,11 @@
-use Rattle.std.proofs.Common.{◌≡◌, ◌<◌, Ok, Err, None, Result, refl, ap, sym, subst}
+use Rattle.std.proofs.Common.{◌≡◌, ◌+◌, ◌<◌, Ok, Err, None, Result, refl, ap, sym, subst}
 use Rattle.gate_model.specs.Gate.{entry_of}
 use Rattle.gate_model.specs.Lawful.{refusal, most_entries}
 use Rattle.gate_model.proofs.RefusalLemmas.{few_where_unrefused}
 use Rattle.gate_model.specs.declared.reply.Refusal.TheVariants as refusal_is
 use Rattle.gate_model.specs.declared.reply.Reply.{Reply}
 use Rattle.store_disk.specs.declared.disk.DiskFailed.{DiskFailed}
+use Rattle.gate_store.specs.Deeds.{repair_calls}
 use Rattle.gate_store.specs.Store.{rules_in, state_in, unsure_in}
 use Rattle.gate_store.specs.StoreSteps.{Commits}
 use Rattle.gate_store.specs.declared.store.Store.{Store}
@@ -14,15 +15,12 @@ use Rattle.gate_store.proofs.store.Store.commit.Goals as goal
 
 pub returns-in-Err : goal.returns-in-Err
 returns-in-Err g c =
-    let tells = g.D.Disk.tells in
-    let story = g.D.Disk.story in
-    let faults = g.D.Disk.faults in
-    let calls = g.D.Disk.calls in
+    let meaning = g.D.Disk.meaning in
     let old = c.args.self.now in
     let mid = c.reserve.new.self in
     let r = c.reserve.ensures.reserves in
     let same = c.reserve.ensures.same in
-    unmoved tells story faults calls old mid (entry_of c.args.ready) refusal_is.Memory refl c.requires.taken (ap rules_in same) r.born (ap state_in same) (ap unsure_in same) r.disk r.holds c.requires.kept
+    unmoved meaning old mid (entry_of c.args.ready) refusal_is.Memory refl c.requires.taken (ap rules_in same) r.born (ap state_in same) (ap unsure_in same) r.disk r.holds c.requires.kept
 
 pub repair_and_append-requires-clause-kept : goal.repair_and_append-requires-clause-kept
 repair_and_append-requires-clause-kept g c =
@@ -37,34 +35,28 @@ repair_and_append-requires-clause-few g c =
 
 pub returns-in-Ok : goal.returns-in-Ok
 returns-in-Ok g c =
-    let tells = g.D.Disk.tells in
-    let story = g.D.Disk.story in
-    let faults = g.D.Disk.faults in
-    let calls = g.D.Disk.calls in
+    let meaning = g.D.Disk.meaning in
     let old = c.args.self.now in
     let mid = c.reserve.new.self in
     let new = c.repair_and_append.new.self in
     let kept = entry_of c.args.ready in
     let r = c.reserve.ensures.reserves in
     let same = c.reserve.ensures.same in
-    let P : Result Reply DiskFailed → Type 0 = λ x. Commits tells story faults calls 6 mid kept x new in
+    let P : Result Reply DiskFailed → Type 0 = λ x. Commits meaning (repair_calls (unsure_in mid) + 4) mid kept x new in
     let Q : Store g.row.D.Denot → Type 0 = λ s. refusal (rules_in s) (state_in s) kept ≡ None in
-    performed_on tells story faults calls old mid new kept (Ok c.in-Ok.reply) (ap rules_in same) r.born (ap state_in same) (ap unsure_in same) r.disk r.holds
-    (performs_ok tells story faults calls mid mid new kept c.in-Ok.reply (subst Q (sym same) c.requires.taken) (subst P c.in-Ok.is c.repair_and_append.ensures))
+    performed_on meaning old mid new kept (Ok c.in-Ok.reply) (ap rules_in same) r.born (ap state_in same) (ap unsure_in same) r.disk r.holds
+    (performs_ok meaning mid mid new kept c.in-Ok.reply (subst Q (sym same) c.requires.taken) (subst P c.in-Ok.is c.repair_and_append.ensures))
 
 pub returns-in-Err-repair_and_append : goal.returns-in-Err-repair_and_append
 returns-in-Err-repair_and_append g c =
-    let tells = g.D.Disk.tells in
-    let story = g.D.Disk.story in
-    let faults = g.D.Disk.faults in
-    let calls = g.D.Disk.calls in
+    let meaning = g.D.Disk.meaning in
     let old = c.args.self.now in
     let mid = c.reserve.new.self in
     let new = c.repair_and_append.new.self in
     let kept = entry_of c.args.ready in
     let r = c.reserve.ensures.reserves in
     let same = c.reserve.ensures.same in
-    let P : Result Reply DiskFailed → Type 0 = λ x. Commits tells story faults calls 6 mid kept x new in
+    let P : Result Reply DiskFailed → Type 0 = λ x. Commits meaning (repair_calls (unsure_in mid) + 4) mid kept x new in
     let Q : Store g.row.D.Denot → Type 0 = λ s. refusal (rules_in s) (state_in s) kept ≡ None in
-    performed_on tells story faults calls old mid new kept (Err refusal_is.Disk) (ap rules_in same) r.born (ap state_in same) (ap unsure_in same) r.disk r.holds
-    (performs_err tells story faults calls mid mid new kept c.in-Err-repair_and_append.field-0 (subst Q (sym same) c.requires.taken) (subst P c.in-Err-repair_and_append.is c.repair_and_append.ensures))
+    performed_on meaning old mid new kept (Err refusal_is.Disk) (ap rules_in same) r.born (ap state_in same) (ap unsure_in same) r.disk r.holds
+    (performs_err meaning mid mid new kept c.in-Err-repair_and_append.field-0 (subst Q (sym same) c.requires.taken) (subst P c.in-Err-repair_and_append.is c.repair_and_append.ensures))

@@ -10,7 +10,7 @@ pub returns : goal.returns
 returns g c =
     let new = c.perform.new.self in
     let P : List ℕ → Result Reply Refusal → Type 0 = λ id outcome.
-    Performs g.D.Disk.tells g.D.Disk.story g.D.Disk.faults g.D.Disk.calls c.args.self.now
+    Performs g.D.Disk.meaning c.args.self.now
     (entry.Rejected (record { message = c.args.message; smsc = id; cause = Expired; time = c.args.now })) outcome new in (
       c.requires.late,
       refl,

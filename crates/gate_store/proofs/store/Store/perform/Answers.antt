@@ -5,5 +5,5 @@ use Rattle.gate_store.proofs.store.Store.perform.Goals as goal
 
 pub returns-in-Err : goal.returns-in-Err
 returns-in-Err g c =
-    refused g.D.Disk.tells g.D.Disk.story g.D.Disk.faults g.D.Disk.calls c.args.self.now c.args.entry c.in-Err.refusal c.requires.kept
+    refused g.D.Disk.meaning c.args.self.now c.args.entry c.in-Err.refusal c.requires.kept
     (sym c.check.ensures ∙ ap result_err c.in-Err.is)

@@ -14,26 +14,20 @@ commit-requires-clause-kept g c =
     let old = c.args.self.now in
     let mid = record old { gate = c.prepare.new.self } in
     let kept = c.requires.kept in
-    (kept.0, kept.1, prepared_on g.D.Disk.tells g.D.Disk.story g.D.Disk.faults g.D.Disk.calls old mid refl c.in-Ok.ensures.state kept.0 kept.1 kept.2)
+    (kept.0, kept.1, prepared_on g.D.Disk.meaning old mid refl c.in-Ok.ensures.state kept.0 kept.1 kept.2)
 
 pub returns-in-Ok : goal.returns-in-Ok
 returns-in-Ok g c =
-    let tells = g.D.Disk.tells in
-    let story = g.D.Disk.story in
-    let faults = g.D.Disk.faults in
-    let calls = g.D.Disk.calls in
+    let meaning = g.D.Disk.meaning in
     let old = c.args.self.now in
     let mid = record old { gate = c.prepare.new.self } in
     let new = c.commit.new.self in
     let keeps = c.in-Ok.ensures.state in
-    let done = subst (λ (kept : Recorded). Performs tells story faults calls mid kept c.commit.result new) c.in-Ok.ensures.entry c.commit.ensures in
-    performed_on tells story faults calls old mid new c.args.entry c.commit.result keeps.rules refl keeps.holds refl refl (prepared_on tells story faults calls old mid refl keeps) done
+    let done = subst (λ (kept : Recorded). Performs meaning mid kept c.commit.result new) c.in-Ok.ensures.entry c.commit.ensures in
+    performed_on meaning old mid new c.args.entry c.commit.result keeps.rules refl keeps.holds refl refl (prepared_on meaning old mid refl keeps) done
 
 pub returns : goal.returns
 returns g c =
-    let tells = g.D.Disk.tells in
-    let story = g.D.Disk.story in
-    let faults = g.D.Disk.faults in
-    let calls = g.D.Disk.calls in
+    let meaning = g.D.Disk.meaning in
     let old = c.args.self.now in
-    unremembered tells story faults calls old (record old { gate = c.prepare.new.self }) c.args.entry c.requires.kept refl c.prepare.ensures.state c.requires.taken
+    unremembered meaning old (record old { gate = c.prepare.new.self }) c.args.entry c.requires.kept refl c.prepare.ensures.state c.requires.taken

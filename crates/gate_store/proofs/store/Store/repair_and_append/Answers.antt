@@ -7,13 +7,10 @@ use Rattle.gate_store.proofs.store.Store.repair_and_append.Goals as goal
 
 pub returns-in-Err : goal.returns-in-Err
 returns-in-Err g c =
-    let tells = g.D.Disk.tells in
-    let story = g.D.Disk.story in
-    let faults = g.D.Disk.faults in
-    let calls = g.D.Disk.calls in
+    let meaning = g.D.Disk.meaning in
     let old = c.args.self.now in
-    let P : Result (Unit {0}) DiskFailed → Type 0 = λ r. Settles tells story faults calls old r c.repair.new.self in
-    commits_not tells story faults calls old c.repair.new.self c.repair.new.self (entry_of c.args.ready) c.in-Err.failed (subst P c.in-Err.is c.repair.ensures)
+    let P : Result (Unit {0}) DiskFailed → Type 0 = λ r. Settles meaning old r c.repair.new.self in
+    commits_not meaning old c.repair.new.self c.repair.new.self (entry_of c.args.ready) c.in-Err.failed (subst P c.in-Err.is c.repair.ensures)
 
 pub append-requires-clause-kept : goal.append-requires-clause-kept
 append-requires-clause-kept g c =
@@ -22,10 +19,7 @@ append-requires-clause-kept g c =
 
 pub returns-in-Ok : goal.returns-in-Ok
 returns-in-Ok g c =
-    let tells = g.D.Disk.tells in
-    let story = g.D.Disk.story in
-    let faults = g.D.Disk.faults in
-    let calls = g.D.Disk.calls in
+    let meaning = g.D.Disk.meaning in
     let old = c.args.self.now in
-    let P : Result (Unit {0}) DiskFailed → Type 0 = λ r. Settles tells story faults calls old r c.repair.new.self in
-    commits_behind tells story faults calls old c.repair.new.self c.append.new.self (entry_of c.args.ready) tt c.append.result (subst P c.in-Ok.is c.repair.ensures) c.append.ensures
+    let P : Result (Unit {0}) DiskFailed → Type 0 = λ r. Settles meaning old r c.repair.new.self in
+    commits_behind meaning old c.repair.new.self c.append.new.self (entry_of c.args.ready) tt c.append.result (subst P c.in-Ok.is c.repair.ensures) c.append.ensures

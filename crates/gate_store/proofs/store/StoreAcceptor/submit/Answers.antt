@@ -15,7 +15,7 @@ pub returns-clause-deed : goal.returns-clause-deed
 returns-clause-deed g c =
     let new = c.perform.new.self in
     let P : List Sms → Type 0 = λ parts.
-    Performs g.D.Disk.tells g.D.Disk.story g.D.Disk.faults g.D.Disk.calls c.args.self.now (entry.Accept (record { time = c.args.time; parts = parts })) c.perform.result new in
+    Performs g.D.Disk.meaning c.args.self.now (entry.Accept (record { time = c.args.time; parts = parts })) c.perform.result new in
     (new, subst P c.from_vec.ensures c.perform.ensures, refl)
 
 pub returns-clause-ready : goal.returns-clause-ready

@@ -11,5 +11,5 @@ pub returns : goal.returns
 returns g c =
     rw (← c.self.view_is)
     (c.as_ref.ensures.value
-    ∙ sym (found c.args.number c.in_ok-place.place _ c.self.inside.rows.items c.index.result.now c.as_slice.ensures.value c.self.invariant.ascend c.in_ok-place.ensures.within
+    ∙ sym (found c.args.number c.in_ok-place.place _ c.self.inside.rows.items c.index.result.now c.as_slice.ensures.value c.self.invariant.places.ascend c.in_ok-place.ensures.within
     c.in_ok-place.ensures.some c.index.ensures))

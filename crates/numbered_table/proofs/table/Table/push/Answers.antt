@@ -6,7 +6,7 @@ use Rattle.numbered_table.proofs.table.Table.push.Goals as goal
 pub overflow_sub-self-2 : goal.overflow_sub-self-2
 overflow_sub-self-2 g c =
     push_fits c.as_slice.result.now c.self.inside.rows.items c.live_end-end.result c.len.result c.as_slice.ensures.value (c.len.ensures ∙ sym c.as_slice.ensures.len) c.live_end-end.ensures.within
-    c.live_end-end.ensures.empty c.self.inside.first_live c.self.inside.empties c.self.invariant
+    c.live_end-end.ensures.empty c.self.inside.first_live c.self.inside.empties c.self.invariant.places
 
 pub invariant_of-self : goal.invariant_of-self
 invariant_of-self g c =

@@ -34,7 +34,7 @@ returns-clause-gate g c =
 
 pub returns-clause-same : goal.returns-clause-same
 returns-clause-same g c = λ birth payloads unsure is.
-    handed_on g.D.Disk.tells g.D.Disk.story c.args.self.now _ birth payloads unsure is c.in_ok-payload-2.payload (returns-clause-next g c) refl refl
+    handed_on g.D.Disk.meaning c.args.self.now _ birth payloads unsure is c.in_ok-payload-2.payload (returns-clause-next g c) refl refl
     (omega (arith, c.len.ensures, c.deref.ensures.len, ap length c.deref.ensures.value)) refl refl refl refl
 
 pub returns-clause-kept : goal.returns-clause-kept

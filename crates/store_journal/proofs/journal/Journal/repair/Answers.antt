@@ -3,11 +3,11 @@ use Rattle.store_journal.proofs.Kept.{repair_none, repair_closed, repair_failed}
 use Rattle.store_journal.proofs.journal.Journal.repair.Goals as goal
 
 pub returns-then-not-self-clause-repaired : goal.returns-then-not-self-clause-repaired
-returns-then-not-self-clause-repaired g c = λ birth payloads unsure is. repair_none g.D.Disk.tells g.D.Disk.story c.args.self.now birth payloads unsure tt is c.if-not-self.true
+returns-then-not-self-clause-repaired g c = λ birth payloads unsure is. repair_none g.D.Disk.meaning c.args.self.now birth payloads unsure tt is c.if-not-self.true
 
 pub returns-in_err-write_synced-clause-repaired : goal.returns-in_err-write_synced-clause-repaired
 returns-in_err-write_synced-clause-repaired g c = λ birth payloads unsure is.
-    (repair_failed g.D.Disk.tells g.D.Disk.story c.args.self.now _ birth payloads unsure c.from_residual.result _ c.from_residual.ensures.0 refl is c.if-not-self.false refl refl refl is.place refl refl refl
+    (repair_failed g.D.Disk.meaning c.args.self.now _ birth payloads unsure c.from_residual.result _ c.from_residual.ensures.0 refl is c.if-not-self.false refl refl refl is.place refl refl refl
     c.in_err-write_synced.ensures.written).1
 
 pub returns-in_err-write_synced-clause-kept : goal.returns-in_err-write_synced-clause-kept
@@ -17,13 +17,13 @@ returns-in_err-write_synced-clause-kept g c =
       kept.0,
       kept.1,
       kept.2,
-      (repair_failed g.D.Disk.tells g.D.Disk.story c.args.self.now _ kept.0 kept.1 kept.2 c.from_residual.result _ c.from_residual.ensures.0 refl is c.if-not-self.false refl refl refl is.place refl refl refl
+      (repair_failed g.D.Disk.meaning c.args.self.now _ kept.0 kept.1 kept.2 c.from_residual.result _ c.from_residual.ensures.0 refl is c.if-not-self.false refl refl refl is.place refl refl refl
           c.in_err-write_synced.ensures.written).0,
     )
 
 pub returns-clause-repaired : goal.returns-clause-repaired
 returns-clause-repaired g c = λ birth payloads unsure is.
-    repair_closed g.D.Disk.tells g.D.Disk.story c.args.self.now _ birth payloads unsure tt is c.if-not-self.false refl refl refl is.place refl refl refl c.in_ok-write_synced.ensures.written
+    repair_closed g.D.Disk.meaning c.args.self.now _ birth payloads unsure tt is c.if-not-self.false refl refl refl is.place refl refl refl c.in_ok-write_synced.ensures.written
 
 pub returns-clause-kept : goal.returns-clause-kept
 returns-clause-kept g c =

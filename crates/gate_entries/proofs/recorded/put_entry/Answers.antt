@@ -5,7 +5,7 @@ use Rattle.gate_entries.specs.declared.recorded.Recorded.{Recorded}
 use Rattle.gate_entries.specs.Entry.{entry_octets}
 use Rattle.gate_entries.specs.EntryReading.{entry_code, kind_of_entry, fields_of}
 use Rattle.gate_entries.proofs.Entries.{octets_by_kind}
-use Rattle.gate_entries.proofs.entry.put_entry.Goals as goal
+use Rattle.gate_entries.proofs.recorded.put_entry.Goals as goal
 
 -- its kind and its fields, one after the other
 grown_entry : (e : Recorded) (code : ℕ) (a b d : List ℕ) → code ≡ entry_code (kind_of_entry e) → b ≡ a ++ code ∷ [] → d ≡ b ++ fields_of e → d ≡ a ++ entry_octets e
