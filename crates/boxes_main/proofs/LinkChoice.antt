@@ -1,4 +1,5 @@
 -- A link of settings: its rule, how it reaches its centre, and that a session of it may begin.
+use Rattle.smpp_link.specs.Protocol.{SmppProtocol}
 use Rattle.std.proofs.Common.{◌≡◌, ℕ, ◌<◌, ◌≤◌, ◌^◌, ◌+◌, Bool, true, false, List, [], ◌∷◌, ◌++◌, length, take, get_or, All, Option, Some, ⊎_elim, refl, ap, sym, ◌∙◌, arith, subst, slice_get}
 use Rattle.std.specs.Prelude.{IsSomeAnd, MatchOption, bytes_eq, ◌≢◌}
 use Rattle.std.specs.List.{AllZip}
@@ -108,5 +109,5 @@ module _ (settings : Settings) (in_range : AreSettings settings) where
   pub begins_over : {D : Type 0} (meaning : Meaning D) (number : ℕ) (centre : LinkSettings) (session : Session BindFields) (disk : D) (birth : ℕ) (store : Store D)
       → IsLinked settings number centre → IsNewSession number centre session → IsOpened meaning disk settings.rules birth store → MayBegin meaning session store
   begins_over meaning number centre session disk birth store linked new opened =
-      may_begin last_tag next_tag (λ tag. tag < 2 ^ 32) Smpp Hears Refuses smpp.said meaning (bind_of centre) (terms_for number centre) session disk settings.rules birth 0 store
+      may_begin SmppProtocol meaning (bind_of centre) (terms_for number centre) session disk settings.rules birth 0 store
       new.new_one new.sound opened has_ids (link_in number centre linked)

@@ -358,5 +358,5 @@ module _ {D : Type 0} (meaning : Meaning D) (rules : Rules) (link : ℕ) where
         reports = subst (λ (r : Rules). HaveReports (birth_in opened) (state_of (birth_in opened) r is.entries) (recorded_in rules link deeds) (state_in closed)) behind.ruled
             (reports_by meaning closed (birth_in opened) is.entries (recorded_in rules link deeds) behind.holds);
         amid = subst (λ (d : D). OnTrue meaning.tells (LeavesOnly (untold areas) (story d) (ReopensAmid rules link (birth_in opened) is.entries deeds))) (sym same) behind.amid;
-        bounded = let here : calls disk ≡ meaning.calls (disk_in closed) = ap calls same in let few = behind.bounded in omega (arith, here, few);
+        bounded = let here : meaning.calls disk ≡ meaning.calls (disk_in closed) = ap meaning.calls same in let few = behind.bounded in omega (arith, here, few);
       }

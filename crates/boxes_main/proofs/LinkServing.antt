@@ -1,4 +1,5 @@
 -- A session of a link that was held over a store that was opened, and what is left of it.
+use Rattle.smpp_link.specs.Protocol.{SmppProtocol}
 use Rattle.std.proofs.Common.{◌≡◌, ◌⊎◌, ℕ, Bool, false, List, [], ◌∷◌, ◌++◌, Option, Some, None, refl, ap, sym, ◌∙◌, subst}
 use Rattle.std.specs.Prelude.{IfSome, MatchOption, is_some, option_map}
 use Rattle.std.specs.Option.{option_map_or}
@@ -91,7 +92,7 @@ module _
       (rules : Rules) (areas : Areas) (word : Option ℕ) (birth : ℕ) (found : D) (told : IsToldWord word birth)
       (new_disk : IsHouseDisk meaning areas found) (is : IsOpened meaning found rules birth store) where
     -- no connection was made
-    undialled : CallsNone Hears Refuses smpp.said meaning (readings_of clock) (readings_of clock_later) store after (dealings dialer) (dealings dialer_later)
+    undialled : CallsNone SmppProtocol meaning (readings_of clock) (readings_of clock_later) store after (dealings dialer) (dealings dialer_later)
         → Adds (asked_for centre.host centre.port) (dealings dialer).dials (dealings dialer_later).dials
         → IsUndialled meaning readings_of dealings rules number centre areas word (worker_left None ∷ []) (Some disk)
     undialled none dials = record {
@@ -116,13 +117,13 @@ module _
     }
 
     -- a fault of the disk is told only where its count rose
-    disk_rose : (unsure : Option Recorded) (cause : EndCause) (heard spoken readings : List ℕ) (deeds : List Deed) → meaning.faults (disk_in store) ≡ 0 → IfSome unsure (λ _. Rose 0 (faults disk))
-        → LinkTalk Hears Refuses (said_to centre) (terms_for number centre) heard spoken readings deeds (talk_cause cause)
+    disk_rose : (unsure : Option Recorded) (cause : EndCause) (heard spoken readings : List ℕ) (deeds : List Deed) → meaning.faults (disk_in store) ≡ 0 → IfSome unsure (λ _. Rose 0 (meaning.faults disk))
+        → LinkTalk SmppProtocol (bind_of centre) (terms_for number centre) heard spoken readings deeds (talk_cause cause)
         → Leads meaning number store deeds after → DiskRose (link_fault (is_some unsure) cause) (meaning.faults disk)
     disk_rose (Some kept) cause heard spoken readings deeds none rose talk led = rose
     disk_rose None end_is.Disk heard spoken readings deeds none rose talk led =
-        subst (λ (d : D). Rose 0 (faults d)) (sym same) (subst (λ n. Rose n (meaning.faults (disk_in after))) none
-        (disk_failed meaning Hears Refuses (said_to centre) (terms_for number centre) heard spoken readings deeds number store after talk led))
+        subst (λ (d : D). Rose 0 (meaning.faults d)) (sym same) (subst (λ n. Rose n (meaning.faults (disk_in after))) none
+        (disk_failed meaning SmppProtocol (bind_of centre) (terms_for number centre) heard spoken readings deeds number store after talk led))
     disk_rose None end_is.PeerEnd heard spoken readings deeds none rose talk led = tt
     disk_rose None end_is.PeerFault heard spoken readings deeds none rose talk led = tt
     disk_rose None (end_is.LoginRefused code) heard spoken readings deeds none rose talk led = tt
@@ -138,7 +139,7 @@ module _
     -- a session was held
     held_so : (held : Held) (between : Dealings) → Stays (dealings dialer).pasts between.pasts
         → Adds (asked_for centre.host centre.port) (dealings dialer).dials (dealings dialer_later).dials
-        → HoldsWith Hears Refuses smpp.said meaning (bind_of centre) (terms_for number centre) (readings_of clock) (readings_of clock_later) store after
+        → HoldsWith SmppProtocol meaning (bind_of centre) (terms_for number centre) (readings_of clock) (readings_of clock_later) store after
         between (dealings dialer_later) held
         → IsHeld meaning readings_of dealings rules number centre areas word (worker_left (Some held) ∷ []) (Some disk)
         (link_fault (is_some (unsure_in after)) held.cause)
@@ -184,7 +185,7 @@ module _
     served_by workers (Some fault) held = held
 
     pub served_so : (held : Option Held)
-        → Calls Hears Refuses smpp.said meaning (bind_of centre) (terms_for number centre) centre (readings_of clock) (readings_of clock_later) store after
+        → Calls SmppProtocol meaning (bind_of centre) (terms_for number centre) centre (readings_of clock) (readings_of clock_later) store after
         (dealings dialer) (dealings dialer_later) held
         → ServedSo meaning readings_of dealings rules number centre areas word (worker_left held ∷ []) (Some disk)
         (failure_by (is_some (unsure_in after)) held)
@@ -196,7 +197,7 @@ module _
   pub serves_link_by : {V S O E : Type 0} (old mid new : Rooms V S O E) (before between later : Stock) → mid ≡ old → new ≡ mid → between ≡ before → later ≡ between
       → (status : ℕ) (failure : Option Failure) (held : Option Held) → status ≡ status_of failure → failure ≡ failure_by (is_some (unsure_in after)) held
       → (workers : List (Worker C L)) → workers ≡ worker_left held ∷ []
-      → Calls Hears Refuses smpp.said meaning (bind_of centre) (terms_for number centre) centre (readings_of clock) (readings_of clock_later) store after
+      → Calls SmppProtocol meaning (bind_of centre) (terms_for number centre) centre (readings_of clock) (readings_of clock_later) store after
       (dealings dialer) (dealings dialer_later) held
       → ServesLink meaning readings_of dealings number centre old new before later store status failure (Some disk) workers
   serves_link_by old mid new before between later first then_ stock_first stock_then status failure held right failed workers left calls_ = record {

@@ -1,4 +1,5 @@
 -- Turns of a link's session, one behind the other, up to its end.
+use Rattle.link_core.specs.Protocol.{Protocol}
 use Rattle.std.proofs.Common.{◌≡◌, ◌≤◌, ◌<◌, ◌+◌, ◌^◌, ◌-◌, ℕ, zero, suc, min, Bool, true, false, List, [], ◌++◌, length, Option, Some, None, inl, inr, ⊎_elim, ◌⊎◌, refl, ap, sym, ◌∙◌, arith, subst}
 use Rattle.std.specs.Prelude.{IfSome, MatchOption, is_some, ◌==◌}
 use Rattle.std.proofs.Math.Nat.{min-le_left}
@@ -73,12 +74,12 @@ pub unlimited : (progress : Progress) (limit : Option Limit) → IsLimit progres
 unlimited progress None is none = is
 unlimited progress (Some limit) is none = absurd (let e : true ≡ false = none in cc)
 
-module _ {C : Type 0} (hears : List ℕ → Heard → Type 0) (refuses : List ℕ → ℕ → ℕ → Type 0) (said : C → Out → List ℕ) (core : C) (terms : Terms) where
+module _ {C : Type 0} (protocol : Protocol C) (core : C) (terms : Terms) where
   -- a session that listens goes by the terms of its talk
-  terms_in : (talk : Talk) (session : Session C) (phase : Phase) → StandsIn hears refuses said core terms phase wish_is.Listen talk session → terms_of session ≡ terms
+  terms_in : (talk : Talk) (session : Session C) (phase : Phase) → StandsIn protocol core terms phase wish_is.Listen talk session → terms_of session ≡ terms
   terms_in talk session phase_is.Fresh stands = stands.2.terms_are
   terms_in talk session phase_is.Listening stands = stands.1.keeps.agrees.terms_are
-  terms_in talk session (phase_is.Saying saying) stands = absurd (let e : wish_is.Listen ≡ wish_is.Say (said core stands.0) = stands.1 in cc)
+  terms_in talk session (phase_is.Saying saying) stands = absurd (let e : wish_is.Listen ≡ wish_is.Say (protocol.said core stands.0) = stands.1 in cc)
   terms_in talk session (phase_is.Recording recording) stands = absurd (let e : wish_is.Listen ≡ wish_is.Perform stands.0 = stands.1 in cc)
   terms_in talk session phase_is.ComingUp stands = absurd (let e = stands.0 in cc)
   terms_in talk session (phase_is.GivingBack message) stands = absurd (let e = stands.0 in cc)
@@ -86,12 +87,12 @@ module _ {C : Type 0} (hears : List ℕ → Heard → Type 0) (refuses : List �
   terms_in talk session (phase_is.Leaving cause one) stands = absurd (let e : wish_is.Listen ≡ wish_is.Pass stands.0 = stands.1 in cc)
   terms_in talk session phase_is.Done stands = absurd (let e : wish_is.Listen ≡ wish_is.Over stands.0 = stands.1 in cc)
 
-  pub terms_stand : (talk : Talk) (session : Session C) → Stands hears refuses said core terms wish_is.Listen talk session → terms_of session ≡ terms
+  pub terms_stand : (talk : Talk) (session : Session C) → Stands protocol core terms wish_is.Listen talk session → terms_of session ≡ terms
   terms_stand talk session stands = terms_in talk session session.phase stands
 
   -- the talk of a session that ended by itself
   itself : (heard spoken readings : List ℕ) (deeds : List Deed) (cause : EndCause)
-      → LinkTalk hears refuses (said core) terms heard spoken readings deeds cause → LinkTalk hears refuses (said core) terms heard spoken readings deeds (talk_cause cause)
+      → LinkTalk protocol core terms heard spoken readings deeds cause → LinkTalk protocol core terms heard spoken readings deeds (talk_cause cause)
   itself heard spoken readings deeds (end_is.Budget taken) talk = absurd talk.caused
   itself heard spoken readings deeds (end_is.QuietLimit turns) talk = absurd talk.caused
   itself heard spoken readings deeds end_is.PeerEnd talk = talk
@@ -107,8 +108,8 @@ module _ {C : Type 0} (hears : List ℕ → Heard → Type 0) (refuses : List �
 
   -- and of one that was told to stop, or wasn't
   at_end : (heard spoken readings : List ℕ) (deeds : List Deed) (limit : Option Limit) (cause : EndCause)
-      → LinkTalk hears refuses (said core) terms heard spoken readings deeds cause
-      → LinkTalk hears refuses (said core) terms heard spoken readings deeds (talk_cause (end_of limit cause))
+      → LinkTalk protocol core terms heard spoken readings deeds cause
+      → LinkTalk protocol core terms heard spoken readings deeds (talk_cause (end_of limit cause))
   at_end heard spoken readings deeds None cause talk = itself heard spoken readings deeds cause talk
   at_end heard spoken readings deeds (Some (Octets taken)) end_is.Closed talk = talk
   at_end heard spoken readings deeds (Some Quiets) end_is.Closed talk = talk
@@ -128,7 +129,7 @@ module _ {C : Type 0} (hears : List ℕ → Heard → Type 0) (refuses : List �
   counted : (fresh : Type 0) (progress : Progress) (limit : Option Limit) (cause : EndCause) (heard spoken readings : List ℕ) (deeds : List Deed) (old new : Counts)
       → IsLimit progress limit → progress.taken ≤ length heard → old ≡ record no_counts { quiets = old.quiets } → RoseBy progress.quiets 0 old.quiets
       → NoneFell old new → CountsTurn fresh (is_some limit) (Ended cause) old new
-      → LinkTalk hears refuses (said core) terms heard spoken readings deeds cause → IsCounted (end_of limit cause) (length heard) new
+      → LinkTalk protocol core terms heard spoken readings deeds cause → IsCounted (end_of limit cause) (length heard) new
   counted fresh progress limit (end_is.Budget taken) heard spoken readings deeds old new is some none rose fell counts talk = absurd talk.caused
   counted fresh progress limit (end_is.QuietLimit turns) heard spoken readings deeds old new is some none rose fell counts talk = absurd talk.caused
   counted fresh progress None end_is.Closed heard spoken readings deeds old new is some none rose fell counts talk = absurd (let e : false ≡ true = counts in cc)
@@ -160,19 +161,19 @@ module _ {C : Type 0} (hears : List ℕ → Heard → Type 0) (refuses : List �
   module _
       {D : Type 0} (meaning : Meaning D)
       (first now next : Course) (told now_told next_told : Option (List ℕ)) (began store after : Store D) (session later_session : Session C) (progress : Progress)
-      (on : IsOn hears refuses said meaning core terms first told began session now now_told store progress) (ruled : rules_in after ≡ rules_in store) where
+      (on : IsOn protocol meaning core terms first told began session now now_told store progress) (ruled : rules_in after ≡ rules_in store) where
     -- behind a turn that goes on, a session goes on
     pub goes_on : (heard : ℕ) (stop : Bool) → progress.quiets < quiets_limit → (¬ IsFresh session)
         → CountsTurn (IsFresh session) stop (On heard) now.counts next.counts
-        → Turning meaning hears refuses said core terms on.later now next now_told next_told store after (On heard) later_session
-        → IsOn hears refuses said meaning core terms first told began later_session next next_told after (behind progress heard)
+        → Turning meaning protocol core terms on.later now next now_told next_told store after (On heard) later_session
+        → IsOn protocol meaning core terms first told began later_session next next_told after (behind progress heard)
     goes_on heard stop few begun counts turning =
         let len : length turning.later.heard ≡ length on.later.heard + heard = turning.stands.2 in
         let some = on.heard in
         let least = min-le_left (progress.taken + heard) (2 ^ 64 - 1) in
         record {
           later = turning.later;
-          talks = talks_then meaning (said core) terms.link no_talk on.later turning.later first now next told now_told next_told began store after on.talks turning.talks;
+          talks = talks_then meaning (protocol.said core) terms.link no_talk on.later turning.later first now next told now_told next_told began store after on.talks turning.talks;
           stands = turning.stands.0;
           ruled = ruled ∙ on.ruled;
           heard = omega (arith, len, some, least);
@@ -188,8 +189,8 @@ module _ {C : Type 0} (hears : List ℕ → Heard → Type 0) (refuses : List �
     pub ends_so : (limit : Option Limit) (cause : EndCause) → IsLimit progress limit → IsOpen meaning after
         → IsOf (terms_of session).link [] false (state_in after)
         → CountsTurn (IsFresh session) (is_some limit) (Ended cause) now.counts next.counts
-        → Turning meaning hears refuses said core terms on.later now next now_told next_told store after (Ended cause) later_session
-        → Talked hears refuses said meaning core terms first next told next_told began after (end_of limit cause)
+        → Turning meaning protocol core terms on.later now next now_told next_told store after (Ended cause) later_session
+        → Talked protocol meaning core terms first next told next_told began after (end_of limit cause)
     ends_so limit cause is opened left counts turning =
         let more : turning.later.heard ≡ on.later.heard ++ heard_of turning.talks.pieces = turning.talks.heard in
         let len : length turning.later.heard ≡ length on.later.heard + length (heard_of turning.talks.pieces) =
@@ -198,10 +199,10 @@ module _ {C : Type 0} (hears : List ℕ → Heard → Type 0) (refuses : List �
         let heard : progress.taken ≤ length turning.later.heard = omega (arith, len, some) in
         record {
           later = turning.later;
-          talks = talks_then meaning (said core) terms.link no_talk on.later turning.later first now next told now_told next_told began store after on.talks turning.talks;
-          whole = at_end turning.later.heard (spoken_in (said core) turning.later) turning.later.readings (deeds_in turning.later.steps) limit cause turning.stands;
+          talks = talks_then meaning (protocol.said core) terms.link no_talk on.later turning.later first now next told now_told next_told began store after on.talks turning.talks;
+          whole = at_end turning.later.heard (spoken_in (protocol.said core) turning.later) turning.later.readings (deeds_in turning.later.steps) limit cause turning.stands;
           ruled = ruled ∙ on.ruled;
-          counted = counted (IsFresh session) progress limit cause turning.later.heard (spoken_in (said core) turning.later) turning.later.readings (deeds_in turning.later.steps)
+          counted = counted (IsFresh session) progress limit cause turning.later.heard (spoken_in (protocol.said core) turning.later) turning.later.readings (deeds_in turning.later.steps)
               now.counts next.counts is heard on.counts on.quiets turning.talks.fell counts turning.stands;
           opened = opened;
           left = subst (λ (t : Terms). IsOf t.link [] false (state_in after)) (terms_stand on.later session on.stands) left;
@@ -210,14 +211,14 @@ module _ {C : Type 0} (hears : List ℕ → Heard → Type 0) (refuses : List �
     -- behind a turn that goes on and isn't counted, a session goes on
     pub goes_first : (heard : ℕ) (stop : Bool)
         → CountsTurn (IsFresh session) stop (On heard) now.counts next.counts
-        → Turning meaning hears refuses said core terms on.later now next now_told next_told store after (On heard) later_session
-        → IsOn hears refuses said meaning core terms first told began later_session next next_told after progress
+        → Turning meaning protocol core terms on.later now next now_told next_told store after (On heard) later_session
+        → IsOn protocol meaning core terms first told began later_session next next_told after progress
     goes_first heard stop counts turning =
         let len : length turning.later.heard ≡ length on.later.heard + heard = turning.stands.2 in
         let some = on.heard in
         record {
           later = turning.later;
-          talks = talks_then meaning (said core) terms.link no_talk on.later turning.later first now next told now_told next_told began store after on.talks turning.talks;
+          talks = talks_then meaning (protocol.said core) terms.link no_talk on.later turning.later first now next told now_told next_told began store after on.talks turning.talks;
           stands = turning.stands.0;
           ruled = ruled ∙ on.ruled;
           heard = omega (arith, len, some);
@@ -228,11 +229,11 @@ module _ {C : Type 0} (hears : List ℕ → Heard → Type 0) (refuses : List �
   module _ {D : Type 0} (meaning : Meaning D) (first : Course) (told : Option (List ℕ)) (began : Store D) where
     -- a session that hasn't begun, with a peer that has made no call
     pub begins_on : (session : Session C) → IsNew core terms session → IsNewCourse first
-        → IsOn hears refuses said meaning core terms first told began session first told began (record { taken = 0; quiets = 0 })
+        → IsOn protocol meaning core terms first told began session first told began (record { taken = 0; quiets = 0 })
     begins_on session new new_course = record {
       later = no_talk;
-      talks = talks_none meaning (said core) terms.link no_talk first told began;
-      stands = subst (λ (p : Phase). StandsIn hears refuses said core terms p wish_is.Listen no_talk session) (sym new.phase) (refl, refl, new);
+      talks = talks_none meaning (protocol.said core) terms.link no_talk first told began;
+      stands = subst (λ (p : Phase). StandsIn protocol core terms p wish_is.Listen no_talk session) (sym new.phase) (refl, refl, new);
       ruled = refl;
       heard = omega arith;
       counts = new_course.counts ∙ ap (λ n. record no_counts { quiets = n }) (sym (ap (λ (c : Counts). c.quiets) new_course.counts));
@@ -251,23 +252,23 @@ module _ {C : Type 0} (hears : List ℕ → Heard → Type 0) (refuses : List �
 
     -- a session that was held, and whose peer was handed back
     pub holds_by : (now : Course) (now_told : Option (List ℕ)) (store : Store D) (cause : EndCause) (past : Option Past) (before between : Dealings)
-        → IsNewCourse first → Talked hears refuses said meaning core terms first now told now_told began store cause
+        → IsNewCourse first → Talked protocol meaning core terms first now told now_told began store cause
         → Parts now past before between
-        → HoldsWith hears refuses said meaning core terms told now_told began store before between (record { cause = cause; past = past })
+        → HoldsWith protocol meaning core terms told now_told began store before between (record { cause = cause; past = past })
     holds_by now now_told store cause past before between new_course talked parts =
         let talks = talked.talks in
         let heard : talked.later.heard ≡ heard_of talks.pieces = talks.heard in
-        let spoken : spoken_in (said core) talked.later ≡ said_of talks.pieces = talks.spoken in
+        let spoken : spoken_in (protocol.said core) talked.later ≡ said_of talks.pieces = talks.spoken in
         let read : talked.later.readings ≡ talks.readings = talks.read in
         let done : deeds_in talked.later.steps ≡ talks.deeds = talks.done ∙ append-nil talks.deeds in
         record {
           pieces = talks.pieces;
           readings = talks.readings;
           deeds = talks.deeds;
-          talks = subst (λ x. LinkTalk hears refuses (said core) terms x (said_of talks.pieces) talks.readings talks.deeds (talk_cause cause)) heard
-              (subst (λ x. LinkTalk hears refuses (said core) terms talked.later.heard x talks.readings talks.deeds (talk_cause cause)) spoken
-              (subst (λ x. LinkTalk hears refuses (said core) terms talked.later.heard (spoken_in (said core) talked.later) x talks.deeds (talk_cause cause)) read
-              (subst (λ x. LinkTalk hears refuses (said core) terms talked.later.heard (spoken_in (said core) talked.later) talked.later.readings x (talk_cause cause)) done
+          talks = subst (λ x. LinkTalk protocol core terms x (said_of talks.pieces) talks.readings talks.deeds (talk_cause cause)) heard
+              (subst (λ x. LinkTalk protocol core terms talked.later.heard x talks.readings talks.deeds (talk_cause cause)) spoken
+              (subst (λ x. LinkTalk protocol core terms talked.later.heard (spoken_in (protocol.said core) talked.later) x talks.deeds (talk_cause cause)) read
+              (subst (λ x. LinkTalk protocol core terms talked.later.heard (spoken_in (protocol.said core) talked.later) talked.later.readings x (talk_cause cause)) done
               talked.whole)));
           counts = now.counts;
           counted = subst (λ (x : List ℕ). IsCounted cause (length x) now.counts) heard talked.counted;

@@ -130,9 +130,9 @@ module _ {D : Type 0} (meaning : Meaning D) where
             (is.state ∙ ap (state_of birth_there rules) (sym (append-nil is.entries))) sure
             (told_leaves_weaker tells (untold areas) (meaning.story (disk_in store)) (ReopensTo rules (state_of birth_there rules is.entries)) (ReopensAmid birth_there rules is.entries deeds)
             (amid_first birth_there rules is.entries deeds) (opened_stops meaning areas found rules birth store new_disk is)) led);
-        counted = counted_by (meaning.faults (disk_in store)) (meaning.faults (disk_in later)) (faults disk) deeds
+        counted = counted_by (meaning.faults (disk_in store)) (meaning.faults (disk_in later)) (meaning.faults disk) deeds
             (opened_unfailed meaning areas found rules birth store new_disk is) (ap meaning.faults same) counts;
-        bounded = let here : calls disk ≡ meaning.calls (disk_in later) = ap calls same in omega (arith, here, calls_more, calls_first);
+        bounded = let here : meaning.calls disk ≡ meaning.calls (disk_in later) = ap meaning.calls same in omega (arith, here, calls_more, calls_first);
         failed = refl;
       }
 

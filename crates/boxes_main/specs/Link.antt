@@ -1,4 +1,5 @@
 -- What the command `link` comes to.
+use Rattle.smpp_link.specs.Protocol.{SmppProtocol}
 use Rattle.std.specs.Prelude.{◌≡◌, ◌≢◌, ◌≤◌, ◌+◌, ◌*◌, ◌⊎◌, ⊤, ℕ, min, Bool, true, false, List, [], ◌∷◌, ◌++◌, length, take, All, slice_get, Option, Some, None, IfSome, IsSomeAnd, MatchOption, is_some, Ok, Err}
 use Rattle.std.specs.Bool.{OnTrue}
 use Rattle.kn_base.specs.Count.{Counts, Rose, last_count}
@@ -146,7 +147,7 @@ said_to centre = smpp.said (smpp.bind_of centre)
 -- end.
 abbrev pub Talks : (number : ℕ) → LinkSettings → List Piece → (readings : List ℕ) → List Deed → EndCause → Type 0
 Talks number centre pieces readings deeds cause =
-    LinkTalk Hears Refuses (said_to centre) (terms_for number centre) (heard_of pieces) (said_of pieces) readings deeds (talk_cause cause)
+    LinkTalk SmppProtocol (bind_of centre) (terms_for number centre) (heard_of pieces) (said_of pieces) readings deeds (talk_cause cause)
 
 -- what became of the connection
 abbrev pub IsPast : List Piece → Counts → Past → Type 0

@@ -1,4 +1,6 @@
 -- The steps of `link`. No public clause cites these.
+use Rattle.smpp_link.specs.Protocol.{SmppProtocol}
+use Rattle.link_core.specs.Protocol.{Protocol}
 use Rattle.std.specs.Prelude.{◌≡◌, ◌≢◌, ◌≤◌, ◌<◌, ◌+◌, ◌-◌, ◌*◌, ◌^◌, ◌⊎◌, ◌==◌, ℕ, min, Bool, true, false, if◌then◌else◌, List, [], ◌∷◌, length, Option, Some, None, IfSome, MatchOption, is_some, option_map, slice_get, Ok}
 use Rattle.std.specs.Option.{option_map_or}
 use Rattle.kn_base.specs.Clock.{AddsAll}
@@ -94,15 +96,15 @@ abbrev pub remaining : Progress → ℕ
 remaining progress = (octets_limit - progress.taken) * (quiets_limit + 1) + (quiets_limit - progress.quiets)
 
 module _
-    {C D : Type 0} (hears : List ℕ → Heard → Type 0) (refuses : List ℕ → ℕ → ℕ → Type 0) (said : C → Out → List ℕ)
+    {C D : Type 0} (protocol : Protocol C)
     (meaning : Meaning D) where
   -- A session goes on that began over a store and with a peer, which were so then.
   pub record IsOn
       (core : C) (terms : Terms) (first : Course) (told : Option (List ℕ)) (began : Stored D)
       (session : Session C) (now : Course) (now_told : Option (List ℕ)) (store : Stored D) (progress : Progress) : Type 0 where
     pub later : Talk
-    pub talks : TalksOn meaning (said core) terms.link no_talk later first now told now_told began store
-    pub stands : Stands hears refuses said core terms Listen later session
+    pub talks : TalksOn meaning (protocol.said core) terms.link no_talk later first now told now_told began store
+    pub stands : Stands protocol core terms Listen later session
     pub ruled : rules_in store ≡ rules_in began
     pub heard : progress.taken ≤ length later.heard
     pub counts : now.counts ≡ record no_counts { quiets = now.counts.quiets }
@@ -120,8 +122,8 @@ module _
   pub record Talked
       (core : C) (terms : Terms) (first now : Course) (told now_told : Option (List ℕ)) (began store : Stored D) (cause : EndCause) : Type 0 where
     pub later : Talk
-    pub talks : TalksOn meaning (said core) terms.link no_talk later first now told now_told began store
-    pub whole : LinkTalk hears refuses (said core) terms later.heard (spoken_in (said core) later) later.readings (deeds_in later.steps) (talk_cause cause)
+    pub talks : TalksOn meaning (protocol.said core) terms.link no_talk later first now told now_told began store
+    pub whole : LinkTalk protocol core terms later.heard (spoken_in (protocol.said core) later) later.readings (deeds_in later.steps) (talk_cause cause)
     pub ruled : rules_in store ≡ rules_in began
     pub counted : IsCounted cause (length later.heard) now.counts
     pub opened : IsOpen meaning store
@@ -145,7 +147,7 @@ module _
     pub pieces : List Piece
     pub readings : List ℕ
     pub deeds : List Deed
-    pub talks : LinkTalk hears refuses (said core) terms (heard_of pieces) (said_of pieces) readings deeds (talk_cause held.cause)
+    pub talks : LinkTalk protocol core terms (heard_of pieces) (said_of pieces) readings deeds (talk_cause held.cause)
     pub counts : Counts
     pub counted : IsCounted held.cause (length (heard_of pieces)) counts
     pub clock : AddsAll readings told now_told
@@ -189,11 +191,11 @@ pasts_by (Some held) = option_map_or (λ past. past ∷ []) held.past []
 -- A session of SMPP that hasn't begun.
 pub record IsNewSession (number : ℕ) (centre : LinkSettings) (session : Session BindFields) : Type 0 where
   pub new_one : IsNew (bind_of centre) (terms_for number centre) session
-  pub sound : IsSession last_tag next_tag (λ tag. tag < 2 ^ 32) session
+  pub sound : IsSession SmppProtocol session
 
 -- it may have its first turn over a store
 abbrev pub MayBegin : {D : Type 0} → Meaning D → Session BindFields → Stored D → Type 0
-MayBegin meaning session store = MayTurn last_tag next_tag (λ tag. tag < 2 ^ 32) Smpp Hears Refuses smpp.said meaning session store 0
+MayBegin meaning session store = MayTurn SmppProtocol meaning session store 0
 
 -- the first link with the id stands there, and speaks this
 abbrev pub Finds : (id : List ℕ) → List LinkRule → (number : ℕ) → LinkKind → Type 0

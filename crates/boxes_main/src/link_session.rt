@@ -136,9 +136,9 @@ fn take_turns<C: LinkCore + Drop, D: Disk, P: Peer, K: Clock>(
     peer: &mut P,
     clock: &mut K,
 ) -> EndCause
-    requires may { MayTurn C.tags C.next_tag C.holds C.kind C.hears C.refuses C.said D.meaning session.old store.old (K.latest clock.old) }
+    requires may { MayTurn C.protocol D.meaning session.old store.old (K.latest clock.old) }
     requires begun { ¬ IsFresh session.old }
-    ensures { steps.EndsBehind C.hears C.refuses C.said D.meaning session.old (P.course peer.old) (P.course peer.new)
+    ensures { steps.EndsBehind C.protocol D.meaning session.old (P.course peer.old) (P.course peer.new)
         (K.readings clock.old) (K.readings clock.new) store.old store.new result }
 {
     let mut progress = Progress {
@@ -162,9 +162,9 @@ fn talk<C: LinkCore + Drop, D: Disk, P: Peer, K: Clock>(
     peer: &mut P,
     clock: &mut K,
 ) -> EndCause
-    requires may { MayTurn C.tags C.next_tag C.holds C.kind C.hears C.refuses C.said D.meaning session.old store.old (K.latest clock.old) }
+    requires may { MayTurn C.protocol D.meaning session.old store.old (K.latest clock.old) }
     requires peer { IsNewCourse (P.course peer.old) }
-    ensures { steps.Holds C.hears C.refuses C.said D.meaning session.old (P.course peer.old) (P.course peer.new)
+    ensures { steps.Holds C.protocol D.meaning session.old (P.course peer.old) (P.course peer.new)
         (K.readings clock.old) (K.readings clock.new) store.old store.new result }
 {
     match turn_solo(alloc, session, store, peer, clock, false) {
@@ -189,9 +189,9 @@ fn hold<C: LinkCore + Drop, D: Disk, L: Dialer, K: Clock>(
     peer: L::P,
     clock: &mut K,
 ) -> Held
-    requires may { MayTurn C.tags C.next_tag C.holds C.kind C.hears C.refuses C.said D.meaning session store.old (K.latest clock.old) }
+    requires may { MayTurn C.protocol D.meaning session store.old (K.latest clock.old) }
     requires peer { IsNewCourse (L.P.course peer) }
-    ensures { (core : C) → (terms : Terms) → IsNew core terms session → steps.HoldsWith C.hears C.refuses C.said D.meaning core terms
+    ensures { (core : C) → (terms : Terms) → IsNew core terms session → steps.HoldsWith C.protocol D.meaning core terms
         (K.readings clock.old) (K.readings clock.new) store.old store.new (L.dealings dialer.old) (L.dealings dialer.new) result }
 {
     let (mut session, mut peer) = (session, peer);
@@ -211,8 +211,8 @@ fn call<C: LinkCore + Drop, D: Disk, L: Dialer, K: Clock>(
     clock: &mut K,
     centre: &LinkSettings,
 ) -> Option<Held>
-    requires may { MayTurn C.tags C.next_tag C.holds C.kind C.hears C.refuses C.said D.meaning session store.old (K.latest clock.old) }
-    ensures { (core : C) → (terms : Terms) → IsNew core terms session → steps.Calls C.hears C.refuses C.said D.meaning core terms centre.now
+    requires may { MayTurn C.protocol D.meaning session store.old (K.latest clock.old) }
+    ensures { (core : C) → (terms : Terms) → IsNew core terms session → steps.Calls C.protocol D.meaning core terms centre.now
         (K.readings clock.old) (K.readings clock.new) store.old store.new (L.dealings dialer.old) (L.dealings dialer.new) result }
 {
     match dialer.dial(centre.host.as_slice(), centre.port) {

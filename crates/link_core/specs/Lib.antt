@@ -2,6 +2,7 @@ pub use Rattle.exact_octets.specs.Fronts
 pub mod Heard
 pub mod Grammar
 pub mod Saying
+pub mod Protocol
 pub mod Tags
 pub mod Streams
 pub mod Dcs

@@ -1,4 +1,5 @@
 -- A session that hasn't begun may have a turn over a store that was just opened.
+use Rattle.link_core.specs.Protocol.{Protocol}
 use Rattle.std.proofs.Common.{◌≡◌, refl, sym, ap, subst, ℕ, zero, suc, ◌<◌, Bool, false, List, [], ◌∷◌, length, arith}
 use Rattle.std.specs.Prelude.{Option, Some, None, slice_get}
 use Rattle.std.proofs.lemmas.List.Elements.{All-nil}
@@ -26,15 +27,15 @@ there_within [] at x there = absurd (let e : None ≡ Some x = there in cc)
 there_within (first ∷ xs) zero x there = omega arith
 there_within (first ∷ xs) (suc at) x there = let rest = there_within xs at x there in omega (arith, rest)
 
-module _ {C D : Type 0} (tags : ℕ) (next_tag : Option ℕ → ℕ) (holds : ℕ → Type 0) (kind : LinkKind) (hears_so : List ℕ → Heard → Type 0) (refuses : List ℕ → ℕ → ℕ → Type 0) (said : C → Out → List ℕ)
+module _ {C D : Type 0} (protocol : Protocol C)
     (meaning : Meaning D) where
   -- no steps led to it
-  pub new_stands : (core : C) (terms : Terms) (session : Session C) → IsNew core terms session → Stands hears_so refuses said core terms Listen no_talk session
+  pub new_stands : (core : C) (terms : Terms) (session : Session C) → IsNew core terms session → Stands protocol core terms Listen no_talk session
   new_stands core terms session new =
-      subst (λ (p : Phase). StandsIn hears_so refuses said core terms p Listen no_talk session) (sym new.phase) (refl, refl, new)
+      subst (λ (p : Phase). StandsIn protocol core terms p Listen no_talk session) (sym new.phase) (refl, refl, new)
 
-  pub may_begin : (core : C) (terms : Terms) (session : Session C) (disk : D) (rules : Rules) (birth latest : ℕ) (store : Store D) → IsNew core terms session → IsSession tags next_tag holds session
-      → IsOpened meaning disk rules birth store → HaveIds rules → IsLinkOf kind terms rules → MayTurn tags next_tag holds kind hears_so refuses said meaning session store latest
+  pub may_begin : (core : C) (terms : Terms) (session : Session C) (disk : D) (rules : Rules) (birth latest : ℕ) (store : Store D) → IsNew core terms session → IsSession protocol session
+      → IsOpened meaning disk rules birth store → HaveIds rules → IsLinkOf protocol.kind terms rules → MayTurn protocol meaning session store latest
   may_begin core terms session disk rules birth latest store new sound opened ids link =
       let unread = new.unread in
       let whole = opened.holds.whole in
@@ -49,7 +50,7 @@ module _ {C D : Type 0} (tags : ℕ) (next_tag : Option ℕ → ℕ) (holds : �
         order = omega (arith, unread);
         opened = (birth_in store, opened.entries, opened.holds);
         ids = subst HaveIds (sym opened.ruled) ids;
-        link = subst (λ (t : Terms). IsLinkOf kind t (rules_in store)) (sym new.terms_are) (subst (IsLinkOf kind terms) (sym opened.ruled) link);
+        link = subst (λ (t : Terms). IsLinkOf protocol.kind t (rules_in store)) (sym new.terms_are) (subst (IsLinkOf protocol.kind terms) (sym opened.ruled) link);
         of = subst (λ (t : Terms). IsOf t.link (messages (used_by session)) session.up (state_in store)) (sym new.terms_are)
             (subst (λ (us : List Submitted). IsOf terms.link (messages us) session.up (state_in store)) (sym new.none_used)
             (subst (λ (up : Bool). IsOf terms.link [] up (state_in store)) (sym new.is_down) of));

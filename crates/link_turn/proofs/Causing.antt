@@ -1,4 +1,5 @@
 -- What the end of a session comes of, while its wishes are done.
+use Rattle.link_core.specs.Protocol.{Protocol}
 use Rattle.std.proofs.Common.{◌≡◌, ◌∙◌, refl, sym, ap, subst, ℕ, Bool, inl, inr, List}
 use Rattle.std.specs.Prelude.{Option, Some, None, IfSome}
 use Rattle.gate_store.specs.declared.store.Store.{Store}
@@ -61,7 +62,7 @@ fault_rose a b fails not =
     ]
 
 module _ {C D : Type 0} (meaning : Meaning D)
-    (hears_so : List ℕ → Heard → Type 0) (refuses : List ℕ → ℕ → ℕ → Type 0) (said : C → Out → List ℕ) (core : C) (terms : Terms) where
+    (protocol : Protocol C) (core : C) (terms : Terms) where
   -- what the session is given moves its cause on
   abbrev Moves : (stop : Bool) → Option EndCause → Counts → Course → Wish → Session C → Type 0
   Moves stop before start new next after = CountsCause stop before (cause_in next after.phase) start new.counts
@@ -83,7 +84,7 @@ module _ {C D : Type 0} (meaning : Meaning D)
       comes_to stop before (cause_in next after.phase) end_is.Memory start new.counts (subst (λ (g : Given). EndsBy s g next after) is ends) none.0 tt
 
   moves_in : (link : ℕ) (stop : Bool) (phase : Phase) (wish : Wish) (given : Given) (talk : Talk) (s after : Session C) (next : Wish) (before : Option EndCause) (start : Counts) (old new : Course) (store later : Store D)
-      → s.phase ≡ phase → StandsIn hears_so refuses said core terms phase wish talk s → Does meaning link stop wish given old new store later
+      → s.phase ≡ phase → StandsIn protocol core terms phase wish talk s → Does meaning link stop wish given old new store later
       → CountsCause stop before (cause_in wish phase) start old.counts → EndsBy s given next after → Moves stop before start new next after
   moves_in link stop Fresh wish given talk s after next before start old new store later pe stands does_ counts ends =
       let d = subst (λ (w : Wish). Does meaning link stop w given old new store later) stands.0 does_ in
@@ -96,7 +97,7 @@ module _ {C D : Type 0} (meaning : Meaning D)
   moves_in link stop (phase_is.Saying saying) wish given talk s after next before start old new store later pe stands does_ counts ends =
       let d = subst (λ (w : Wish). Does meaning link stop w given old new store later) stands.1 does_ in
       let none = subst (λ (w : Wish). CountsCause stop before (cause_in w (phase_is.Saying saying)) start old.counts) stands.1 counts in
-      spoke_moves stop before start (said core stands.0) given old new s after next (spoke_so (said core stands.0) given old new d.0) none ends
+      spoke_moves stop before start (protocol.said core stands.0) given old new s after next (spoke_so (protocol.said core stands.0) given old new d.0) none ends
   moves_in link stop (phase_is.Recording recording) wish given talk s after next before start old new store later pe stands does_ counts ends =
       let d = subst (λ (w : Wish). Does meaning link stop w given old new store later) stands.1 does_ in
       let none = subst (λ (w : Wish). CountsCause stop before (cause_in w (phase_is.Recording recording)) start old.counts) stands.1 counts in
@@ -124,7 +125,7 @@ module _ {C D : Type 0} (meaning : Meaning D)
       absurd (subst (λ (w : Wish). Does meaning link stop w given old new store later) stands.1 does_)
 
   pub moves : (link : ℕ) (stop : Bool) (wish : Wish) (given : Given) (talk : Talk) (s after : Session C) (next : Wish) (before : Option EndCause) (start : Counts) (old new : Course) (store later : Store D)
-      → Stands hears_so refuses said core terms wish talk s → Does meaning link stop wish given old new store later
+      → Stands protocol core terms wish talk s → Does meaning link stop wish given old new store later
       → CountsCause stop before (cause_in wish s.phase) start old.counts → EndsBy s given next after → CountsCause stop before (cause_in next after.phase) start new.counts
   moves link stop wish given talk s after next before start old new store later stands does_ counts ends =
       moves_in link stop s.phase wish given talk s after next before start old new store later refl stands does_ counts ends

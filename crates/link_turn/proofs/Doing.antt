@@ -1,4 +1,5 @@
 -- What a session wishes may be done.
+use Rattle.link_core.specs.Protocol.{Protocol}
 use Rattle.std.proofs.Common.{◌≡◌, ◌≢◌, ◌∙◌, refl, sym, ap, subst, ℕ, ◌+◌, Bool, true, inl, inr, List, [], ◌∷◌, ◌++◌, All, arith}
 use Rattle.std.specs.Prelude.{⊤, Option, Some, None, IfSome, IsSomeAnd, is_some, ◌&&◌}
 use Rattle.std.proofs.lemmas.List.Elements.{All-head, All-tail}
@@ -23,11 +24,11 @@ use Rattle.link_core.specs.declared.out.Out.{Out}
 use Rattle.link_core.specs.declared.out.Out.TheVariants as out_is
 use Rattle.store_disk.specs.Meaning.{Meaning}
 use Rattle.link_turn.specs.Back.{held, is_up, ended_by, IsAmong}
-use Rattle.link_turn.specs.Steps.{Step, times_in, times_of_entry}
+use Rattle.link_turn.specs.Steps.{Step, times_of_entry}
 use Rattle.link_turn.specs.Due.{Due, nothing, log_in, come_up, acknowledge, reject, give_back, report, arrive, send, say, over, left, due, entry_for}
 use Rattle.link_turn.specs.Session.{Talk, MayBeRecorded}
 use Rattle.link_turn.specs.SessionSteps.{Records, Stands, StandsIn}
-use Rattle.link_turn.specs.Talk.{AreReadings, MayLeave}
+use Rattle.link_turn.specs.Talk.{AreLast, IsLast, MayLeave}
 use Rattle.link_turn.specs.Turn.{IsOf, IsReading}
 use Rattle.link_turn.specs.TurnSteps.{MayDo}
 use Rattle.link_turn.specs.declared.end_cause.EndCause.TheVariants as end_is
@@ -47,20 +48,13 @@ use Rattle.link_turn.proofs.LoggingIn.{comes_up_down}
 
 -- ---- readings
 
--- what is told by a reading is below the end of the clock
-pub last_in_time : (times : List ℕ) (time : ℕ) (readings : List ℕ) → AreReadings (times ++ time ∷ []) readings → All IsReading readings → IsReading time
-last_in_time [] time [] are all = absurd are
-last_in_time [] time (reading ∷ readings) are all =
-    elim are [
-      | inl here ↦ subst IsReading (sym here.0) (All-head IsReading reading readings all)
-      | inr later ↦ last_in_time [] time readings later (All-tail IsReading reading readings all)
-    ]
-last_in_time (first ∷ times) time [] are all = absurd are
-last_in_time (first ∷ times) time (reading ∷ readings) are all =
-    elim are [
-      | inl here ↦ last_in_time times time (reading ∷ readings) here.1 all
-      | inr later ↦ last_in_time (first ∷ times) time readings later (All-tail IsReading reading readings all)
-    ]
+last_is : (before : List ℕ) (time : ℕ) → All IsReading (before ++ time ∷ []) → IsReading time
+last_is [] time all = All-head IsReading time [] all
+last_is (first ∷ before) time all = last_is before time (All-tail IsReading first (before ++ time ∷ []) all)
+
+-- the last reading is below the end of the clock
+pub last_in_time : (time : ℕ) (readings : List ℕ) → IsLast time readings → All IsReading readings → IsReading time
+last_in_time time readings last all = last_is last.0 time (subst (All IsReading) last.1 all)
 
 -- ---- an entry that is due
 
@@ -131,13 +125,13 @@ may_record_due store link smsc (say out) time kept is good in_time leased = absu
 may_record_due store link smsc (over cause) time kept is good in_time leased = absurd (let e : None ≡ Some kept = is in cc)
 may_record_due store link smsc left time kept is good in_time leased = absurd (let e : None ≡ Some kept = is in cc)
 
-module _ {C : Type 0} (hears_so : List ℕ → Heard → Type 0) (refuses : List ℕ → ℕ → ℕ → Type 0) (said : C → Out → List ℕ) (core : C) (terms : Terms) where
+module _ {C : Type 0} (protocol : Protocol C) (core : C) (terms : Terms) where
   pub may_record : {D : Type 0} (store : Store D) (recording : Recording) (kept : Recorded) (talk : Talk) (session : Session C) (up : Bool)
-      → Records hears_so refuses said core terms recording kept talk session → IsEntry kept → All IsReading talk.readings
+      → Records protocol core terms recording kept talk session → IsEntry kept → All IsReading talk.readings
       → IsOf terms.link (held talk.steps) up (state_in store) → MayRecord store kept × IsOfLink kept
   may_record store recording kept talk session up r good all of =
       may_record_due store terms.link terms.smsc (due talk.steps) r.time kept r.entry good
-      (λ times. last_in_time (times_in talk.steps) r.time talk.readings (subst (λ (ts : List ℕ). AreReadings (times_in talk.steps ++ ts) talk.readings) times r.timed) all)
+      (λ times. last_in_time r.time talk.readings (subst (λ (ts : List ℕ). AreLast ts talk.readings) times r.asked).0 all)
       (λ message ends. held_is_leased terms.link message (held talk.steps) up (state_in store) of
       (subst (λ (o : Option ℕ). IfSome o (λ m. IsAmong m (held talk.steps))) (sym r.ends ∙ ends) r.holds.among))
 
@@ -183,7 +177,7 @@ module _ {C : Type 0} (hears_so : List ℕ → Heard → Type 0) (refuses : List
   May store wish = MayDo store wish × IsOne wish
 
   may_in : {D : Type 0} (meaning : Meaning D) (store : Store D) (phase : Phase) (wish : Wish) (talk : Talk) (session : Session C)
-      → StandsIn hears_so refuses said core terms phase wish talk session → MayBeRecorded wish → All IsReading talk.readings → IsReading session.latest → IsOpen meaning store
+      → StandsIn protocol core terms phase wish talk session → MayBeRecorded wish → All IsReading talk.readings → IsReading session.latest → IsOpen meaning store
       → IsOf terms.link (held talk.steps) (is_up talk.steps) (state_in store) → May store wish
   may_in meaning store Fresh wish talk session stands good all soon open_ of = subst (May store) (sym stands.0) (tt, tt)
   may_in meaning store Listening wish talk session stands good all soon open_ of = subst (May store) (sym stands.0) (tt, tt)
@@ -193,7 +187,7 @@ module _ {C : Type 0} (hears_so : List ℕ → Heard → Type 0) (refuses : List
       (may_record store recording stands.0 talk session (is_up talk.steps) stands.2 (subst MayBeRecorded stands.1 good).0 all of)
   may_in meaning store ComingUp wish talk session stands good all soon open_ of =
       subst (May store) (sym stands.0)
-      (of.is_up ∙ ap Some (comes_up_down terms talk.steps stands.1.keeps.agrees.each stands.1.due_is), refl)
+      (of.is_up ∙ ap Some (comes_up_down protocol.next_tag terms talk.steps stands.1.keeps.agrees.each stands.1.due_is), refl)
   may_in meaning store (GivingBack message) wish talk session stands good all soon open_ of =
       subst (May store) (sym stands.0) (may_return store (held talk.steps) (is_up talk.steps) message of stands.1.holds.among, tt)
   may_in meaning store Taking wish talk session stands good all soon open_ of = subst (May store) (sym stands.0) (soon, tt)
@@ -202,6 +196,6 @@ module _ {C : Type 0} (hears_so : List ℕ → Heard → Type 0) (refuses : List
   may_in meaning store Done wish talk session stands good all soon open_ of = subst (May store) (sym stands.1) (tt, tt)
 
   pub may_do : {D : Type 0} (meaning : Meaning D) (store : Store D) (wish : Wish) (talk : Talk) (session : Session C)
-      → Stands hears_so refuses said core terms wish talk session → MayBeRecorded wish → All IsReading talk.readings → IsReading session.latest → IsOpen meaning store
+      → Stands protocol core terms wish talk session → MayBeRecorded wish → All IsReading talk.readings → IsReading session.latest → IsOpen meaning store
       → IsOf terms.link (held talk.steps) (is_up talk.steps) (state_in store) → May store wish
   may_do meaning store wish talk session stands good all soon open_ of = may_in meaning store session.phase wish talk session stands good all soon open_ of

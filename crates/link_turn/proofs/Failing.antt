@@ -1,4 +1,5 @@
 -- A session that ended because the disk failed has its deed: the disk's count of faults rose.
+use Rattle.link_core.specs.Protocol.{Protocol}
 use Rattle.std.proofs.Common.{◌≡◌, refl, sym, subst, ℕ, ◌≤◌, Bool, true, false, inl, inr, ◌⊎◌, List, [], ◌∷◌, arith}
 use Rattle.std.specs.Prelude.{Option, Some, None, Result, Ok, Err, ◌==◌}
 use Rattle.std.specs.Option.{option_map_or}
@@ -23,7 +24,7 @@ use Rattle.link_core.specs.declared.out.Out.TheVariants as out_is
 use Rattle.link_core.specs.declared.verdict.Verdict.{Verdict}
 use Rattle.link_core.specs.declared.verdict.Verdict.TheVariants.{Good, Temporary, Permanent}
 use Rattle.store_disk.specs.Meaning.{Meaning}
-use Rattle.link_turn.specs.Steps.{Step, hears, says, records, passes, takes, leaves, Deed, performed, passed, took, deeds_in}
+use Rattle.link_turn.specs.Steps.{Step, hears, listens, says, records, passes, takes, leaves, Deed, performed, passed, took, deeds_in}
 use Rattle.link_turn.specs.Back.{open_login, in_use, message_under, before_end}
 use Rattle.link_turn.specs.Due.{Due, nothing, log_in, give_back, send, over, left, due, due_by, due_by_code, due_by_login, due_by_verdict, due_by_said, due_by_entry, due_by_outcome, due_by_taken, answer_to, answer_to_refused}
 use Rattle.link_turn.specs.Talk.{LinkTalk}
@@ -133,6 +134,7 @@ by_outcome heard (Err refusal_is.Memory) is = absurd (let e : over end_is.Memory
 by_entry : (outcome : Result Reply Refusal) (before : List Step) → due_by_entry outcome before ≡ over end_is.Disk → is_by_disk outcome ≡ true
 by_entry outcome (hears heard ∷ before) is = by_outcome heard outcome is
 by_entry outcome [] is = absurd (let e : left ≡ over end_is.Disk = is in cc)
+by_entry outcome (listens ∷ before) is = absurd (let e : left ≡ over end_is.Disk = is in cc)
 by_entry outcome (says out now ∷ before) is = absurd (let e : left ≡ over end_is.Disk = is in cc)
 by_entry outcome (records kept other ∷ before) is = absurd (let e : left ≡ over end_is.Disk = is in cc)
 by_entry outcome (passes brief ∷ before) is = absurd (let e : left ≡ over end_is.Disk = is in cc)
@@ -151,6 +153,7 @@ by_taken (Err refusal_is.Memory) is = absurd (let e : over end_is.Memory ≡ ove
 by_steps : (steps : List Step) → due steps ≡ over end_is.Disk → AnyFailed (deeds_in steps)
 by_steps [] is = absurd (let e : log_in ≡ over end_is.Disk = is in cc)
 by_steps (hears heard ∷ before) is = absurd (none_is (due_by heard before) (none_heard heard before) is)
+by_steps (listens ∷ before) is = absurd (let e : nothing ≡ over end_is.Disk = is in cc)
 by_steps (says out now ∷ before) is = absurd (none_is (due_by_said out) (none_said out) is)
 by_steps (records kept outcome ∷ before) is = inl (by_entry outcome before is)
 by_steps (passes brief ∷ before) is = absurd (let e : nothing ≡ over end_is.Disk = is in cc)
@@ -161,6 +164,7 @@ by_steps (leaves brief ∷ before) is = absurd (let e : left ≡ over end_is.Dis
 with_end : (steps : List Step) → AnyFailed (deeds_in (before_end steps)) → AnyFailed (deeds_in steps)
 with_end [] any = any
 with_end (hears heard ∷ before) any = any
+with_end (listens ∷ before) any = any
 with_end (says out now ∷ before) any = any
 with_end (records kept outcome ∷ before) any = any
 with_end (passes brief ∷ before) any = any
@@ -248,7 +252,7 @@ module _ {D : Type 0} (meaning : Meaning D) where
       (taken_faults led.0 new link now (next (rules_in led.0) (state_in led.0) link now) outcome led.2).0
 
   -- a session that ended because the disk failed has its disk's count risen
-  pub disk_failed : (hears_so : List ℕ → Heard → Type 0) (refuses : List ℕ → ℕ → ℕ → Type 0) (said : Out → List ℕ) (terms : Terms) (heard spoken readings : List ℕ) (deeds : List Deed) (link : ℕ) (old new : Store D)
-      → LinkTalk hears_so refuses said terms heard spoken readings deeds end_is.Disk → Leads meaning link old deeds new → Rose (faults_of old) (faults_of new)
-  disk_failed hears_so refuses said terms heard spoken readings deeds link old new talk led =
+  pub disk_failed : {C : Type 0} (protocol : Protocol C) (core : C) (terms : Terms) (heard spoken readings : List ℕ) (deeds : List Deed) (link : ℕ) (old new : Store D)
+      → LinkTalk protocol core terms heard spoken readings deeds end_is.Disk → Leads meaning link old deeds new → Rose (faults_of old) (faults_of new)
+  disk_failed protocol core terms heard spoken readings deeds link old new talk led =
       leads_rose link deeds old new led (subst AnyFailed (sym talk.done) (with_end talk.steps (by_steps (before_end talk.steps) talk.caused.0)))

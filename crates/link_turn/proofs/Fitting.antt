@@ -1,4 +1,5 @@
 -- What came of a wish fits it.
+use Rattle.link_core.specs.Protocol.{Protocol}
 use Rattle.std.proofs.Common.{◌≡◌, ◌∙◌, refl, sym, ap, subst, ℕ, ◌+◌, ◌≤◌, Bool, true, inl, inr, List, arith}
 use Rattle.std.specs.Prelude.{Option, Some, None, Result, Ok, Err, option_map, is_some, slice_get}
 use Rattle.std.specs.Option.{option_and_then}
@@ -137,9 +138,9 @@ fits_spoken kind now session saying octets given old new pe (faulted is gone so 
 fits_spoken kind now session saying octets given old new pe (starved is gone so rose) = subst (FitsPhase kind now session) (sym is) (inr (saying, pe))
 
 module _ {C D : Type 0} (meaning : Meaning D)
-    (hears_so : List ℕ → Heard → Type 0) (refuses : List ℕ → ℕ → ℕ → Type 0) (said : C → Out → List ℕ) (core : C) (terms : Terms) where
+    (protocol : Protocol C) (core : C) (terms : Terms) where
   fits_in : (kind : LinkKind) (link now : ℕ) (stop : Bool) (phase : Phase) (wish : Wish) (given : Given) (talk : Talk) (session : Session C) (old new : Course) (store after : Store D)
-      → session.phase ≡ phase → ¬ (phase ≡ Fresh) → StandsIn hears_so refuses said core terms phase wish talk session → Does meaning link stop wish given old new store after
+      → session.phase ≡ phase → ¬ (phase ≡ Fresh) → StandsIn protocol core terms phase wish talk session → Does meaning link stop wish given old new store after
       → link ≡ terms.link → IsOpen meaning store → IsReading session.latest → session.latest ≤ now → IsReading now → IsLinkOf kind terms (rules_in store)
       → IsOf terms.link (held talk.steps) (is_up talk.steps) (state_in store) → FitsPhase kind now session given
   fits_in kind link now stop Fresh wish given talk session old new store after pe begun stands does_ same open_ soon order soon' link_of of = absurd (begun refl)
@@ -148,7 +149,7 @@ module _ {C D : Type 0} (meaning : Meaning D)
       subst (FitsPhase kind now session) (sym d.0) pe
   fits_in kind link now stop (phase_is.Saying saying) wish given talk session old new store after pe begun stands does_ same open_ soon order soon' link_of of =
       let d = subst (λ (w : Wish). Does meaning link stop w given old new store after) stands.1 does_ in
-      fits_spoken kind now session saying (said core stands.0) given old new pe (spoke_so (said core stands.0) given old new d.0)
+      fits_spoken kind now session saying (protocol.said core stands.0) given old new pe (spoke_so (protocol.said core stands.0) given old new d.0)
   fits_in kind link now stop (phase_is.Recording recording) wish given talk session old new store after pe begun stands does_ same open_ soon order soon' link_of of =
       let d = subst (λ (w : Wish). Does meaning link stop w given old new store after) stands.1 does_ in
       subst (FitsPhase kind now session) (sym d.1) (recording, pe)
@@ -171,7 +172,7 @@ module _ {C D : Type 0} (meaning : Meaning D)
 
   -- what came of a wish may be given to a session
   pub fits_done : (kind : LinkKind) (link now : ℕ) (stop : Bool) (wish : Wish) (given : Given) (talk : Talk) (session : Session C) (old new : Course) (store after : Store D)
-      → ¬ (session.phase ≡ Fresh) → Stands hears_so refuses said core terms wish talk session → Does meaning link stop wish given old new store after
+      → ¬ (session.phase ≡ Fresh) → Stands protocol core terms wish talk session → Does meaning link stop wish given old new store after
       → link ≡ terms.link → IsOpen meaning store → IsReading session.latest → session.latest ≤ now → IsReading now → IsLinkOf kind terms (rules_in store)
       → IsOf terms.link (held talk.steps) (is_up talk.steps) (state_in store) → FitsPhase kind now session given
   fits_done kind link now stop wish given talk session old new store after begun stands does_ same open_ soon order soon' link_of of =

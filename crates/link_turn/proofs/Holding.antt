@@ -31,7 +31,7 @@ use Rattle.route_rules.specs.declared.rules.Rules.{Rules}
 use Rattle.sms_record.specs.declared.kind.Kind.TheVariants as kind_is
 use Rattle.store_disk.specs.Meaning.{Meaning}
 use Rattle.link_turn.specs.Back.{held, is_up, held_recorded, held_taken, without_any, ended_by, given_back_by, up_passed}
-use Rattle.link_turn.specs.Steps.{Step, hears, says, records, passes, takes, leaves, Deed, performed, passed, took, deeds_in}
+use Rattle.link_turn.specs.Steps.{Step, hears, listens, says, records, passes, takes, leaves, Deed, performed, passed, took, deeds_in}
 use Rattle.link_turn.specs.Turn.{IsOf, IsReading}
 use Rattle.link_turn.proofs.Agreement.{of_ended, of_expired, of_taken, of_returned, of_moved}
 use Rattle.link_turn.proofs.Chosen.{none_among}
@@ -61,6 +61,7 @@ up_in (deed ∷ deeds) = up_by deed (up_in deeds)
 pub held_is : (steps : List Step) → held steps ≡ held_in (deeds_in steps)
 held_is [] = refl
 held_is (hears heard ∷ before) = held_is before
+held_is (listens ∷ before) = held_is before
 held_is (says out now ∷ before) = held_is before
 held_is (records kept outcome ∷ before) = ap (held_recorded kept outcome) (held_is before)
 held_is (passes brief ∷ before) = ap (without_any (given_back_by brief)) (held_is before)
@@ -70,6 +71,7 @@ held_is (leaves brief ∷ before) = ap (without_any (given_back_by brief)) (held
 pub up_is : (steps : List Step) → is_up steps ≡ up_in (deeds_in steps)
 up_is [] = refl
 up_is (hears heard ∷ before) = up_is before
+up_is (listens ∷ before) = up_is before
 up_is (says out now ∷ before) = up_is before
 up_is (records kept outcome ∷ before) = up_is before
 up_is (passes brief ∷ before) = ap (up_passed brief) (up_is before)

@@ -1,4 +1,5 @@
 -- The number by which a turn comes to its end falls with each wish that is done.
+use Rattle.link_core.specs.Protocol.{Protocol}
 use Rattle.std.proofs.Common.{◌≡◌, refl, sym, subst, ℕ, ◌+◌, ◌*◌, ◌<◌, ◌≤◌, Bool, List, arith}
 use Rattle.std.specs.Prelude.{Option, Some, None, Result, Ok, Err}
 use Rattle.gate_entries.specs.declared.passing.Passing.TheVariants.{Up, Returned}
@@ -55,8 +56,8 @@ module _ {C : Type 0} where
       let most = at_most after later in omega (arith, lighter, free, most)
 
 module _ {C D : Type 0} (meaning : Meaning D)
-    (hears_so : List ℕ → Heard → Type 0) (refuses : List ℕ → ℕ → ℕ → Type 0) (said : C → Out → List ℕ) (core : C) (terms : Terms) where
-  leaves_in : (phase : Phase) (next : Wish) (cause : EndCause) (talk : Talk) (s : Session C) (state : State) → StandsIn hears_so refuses said core terms phase next talk s
+    (protocol : Protocol C) (core : C) (terms : Terms) where
+  leaves_in : (phase : Phase) (next : Wish) (cause : EndCause) (talk : Talk) (s : Session C) (state : State) → StandsIn protocol core terms phase next talk s
       → cause_in next phase ≡ Some cause → to_do_in phase s state ≡ weight s
   leaves_in (Leaving why one) next cause talk s state stands is = refl
   leaves_in Done next cause talk s state stands is = refl
@@ -83,8 +84,8 @@ module _ {C D : Type 0} (meaning : Meaning D)
   Falls phase s after store later = to_do after (state_in later) < to_do_in phase s (state_in store)
 
   falls_in : (link : ℕ) (stop : Bool) (phase : Phase) (wish : Wish) (given : Given) (talk more : Talk) (s after : Session C) (next : Wish) (old new : Course) (store later : Store D)
-      → s.phase ≡ phase → StandsIn hears_so refuses said core terms phase wish talk s → Does meaning link stop wish given old new store later → IsOne hears_so refuses said core terms wish
-      → IsOpen meaning store → IsReading s.latest → GetsLighter s given after → EndsBy s given next after → Stands hears_so refuses said core terms next more after → Falls phase s after store later
+      → s.phase ≡ phase → StandsIn protocol core terms phase wish talk s → Does meaning link stop wish given old new store later → IsOne protocol core terms wish
+      → IsOpen meaning store → IsReading s.latest → GetsLighter s given after → EndsBy s given next after → Stands protocol core terms next more after → Falls phase s after store later
   falls_in link stop Fresh wish given talk more s after next old new store later pe stands does_ one open_ soon lighter ends then_ =
       let d = subst (λ (w : Wish). Does meaning link stop w given old new store later) stands.0 does_ in
       let light = subst (λ (g : Given). GetsLighter s g after) d.0 lighter in
@@ -95,23 +96,23 @@ module _ {C D : Type 0} (meaning : Meaning D)
       falls_by s after (state_in store) (state_in later) 0 (omega (arith, light)) (same_free store later d.3)
   falls_in link stop (phase_is.Saying saying) wish given talk more s after next old new store later pe stands does_ one open_ soon lighter ends then_ =
       let d = subst (λ (w : Wish). Does meaning link stop w given old new store later) stands.1 does_ in
-      let light = spoke_lighter (said core stands.0) given old new s after (spoke_so (said core stands.0) given old new d.0) lighter in
+      let light = spoke_lighter (protocol.said core stands.0) given old new s after (spoke_so (protocol.said core stands.0) given old new d.0) lighter in
       falls_by s after (state_in store) (state_in later) 0 (omega (arith, light)) (same_free store later d.1)
   falls_in link stop (phase_is.Recording recording) wish given talk more s after next old new store later pe stands does_ one open_ soon lighter ends then_ =
       let d = subst (λ (w : Wish). Does meaning link stop w given old new store later) stands.1 does_ in
-      let mine = subst (IsOne hears_so refuses said core terms) stands.1 one in
+      let mine = subst (IsOne protocol core terms) stands.1 one in
       let light = subst (λ (g : Given). GetsLighter s g after) d.1 lighter in
       let free = free_performed meaning store later stands.0 d.0 mine d.2 in
       falls_by s after (state_in store) (state_in later) 0 (omega (arith, light)) (omega (arith, free))
   falls_in link stop ComingUp wish given talk more s after next old new store later pe stands does_ one open_ soon lighter ends then_ =
       let d = subst (λ (w : Wish). Does meaning link stop w given old new store later) stands.0 does_ in
-      let mine = subst (IsOne hears_so refuses said core terms) stands.0 one in
+      let mine = subst (IsOne protocol core terms) stands.0 one in
       let light = subst (λ (p : Phase). GetsLighterBehind p (weight s) (weight after)) pe (subst (λ (g : Given). GetsLighter s g after) d.0 lighter) in
       let free = free_passed meaning store later terms.link (Up terms.link) open_ mine d.1 in
       falls_by s after (state_in store) (state_in later) 0 (omega (arith, light)) (omega (arith, free))
   falls_in link stop (GivingBack message) wish given talk more s after next old new store later pe stands does_ one open_ soon lighter ends then_ =
       let d = subst (λ (w : Wish). Does meaning link stop w given old new store later) stands.0 does_ in
-      let mine = subst (IsOne hears_so refuses said core terms) stands.0 one in
+      let mine = subst (IsOne protocol core terms) stands.0 one in
       let light = subst (λ (p : Phase). GetsLighterBehind p (weight s) (weight after)) pe (subst (λ (g : Given). GetsLighter s g after) d.0 lighter) in
       let free = free_passed meaning store later terms.link (Returned message) open_ mine d.1 in
       falls_by s after (state_in store) (state_in later) 1 (omega (arith, light)) (omega (arith, free))
@@ -131,8 +132,8 @@ module _ {C D : Type 0} (meaning : Meaning D)
       absurd (subst (λ (w : Wish). Does meaning link stop w given old new store later) stands.1 does_)
 
   pub falls : (link : ℕ) (stop : Bool) (wish : Wish) (given : Given) (talk more : Talk) (s after : Session C) (next : Wish) (old new : Course) (store later : Store D)
-      → Stands hears_so refuses said core terms wish talk s → Does meaning link stop wish given old new store later → IsOne hears_so refuses said core terms wish
-      → IsOpen meaning store → IsReading s.latest → GetsLighter s given after → EndsBy s given next after → Stands hears_so refuses said core terms next more after
+      → Stands protocol core terms wish talk s → Does meaning link stop wish given old new store later → IsOne protocol core terms wish
+      → IsOpen meaning store → IsReading s.latest → GetsLighter s given after → EndsBy s given next after → Stands protocol core terms next more after
       → to_do after (state_in later) < to_do s (state_in store)
   falls link stop wish given talk more s after next old new store later stands does_ one open_ soon lighter ends then_ =
       falls_in link stop s.phase wish given talk more s after next old new store later refl stands does_ one open_ soon lighter ends then_

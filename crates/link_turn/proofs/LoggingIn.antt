@@ -16,7 +16,7 @@ use Rattle.link_core.specs.declared.out.Out.{Out}
 use Rattle.link_core.specs.declared.out.Out.TheVariants as out_is
 use Rattle.link_core.specs.declared.verdict.Verdict.{Verdict}
 use Rattle.link_core.specs.declared.verdict.Verdict.TheVariants.{Good, Temporary, Permanent}
-use Rattle.link_turn.specs.Steps.{Step, hears, says, records, passes, takes, leaves}
+use Rattle.link_turn.specs.Steps.{Step, hears, listens, says, records, passes, takes, leaves}
 use Rattle.link_turn.specs.Back.{open_login, in_use, is_up, message_under, without_login, login_heard, login_said, up_passed}
 use Rattle.link_turn.specs.Due.{Due, nothing, log_in, come_up, acknowledge, reject, give_back, report, arrive, send, say, over, left, due, due_by, due_by_code, due_by_login, due_by_verdict, due_by_said, due_by_entry, due_by_taken, answer_to, answer_to_refused, passing_for, out_for}
 use Rattle.link_turn.specs.Talk.{AreSteps}
@@ -115,6 +115,7 @@ suits_entry : (outcome : Result Reply Refusal) (before : List Step) → Suits (d
 suits_entry (Ok reply) (hears heard ∷ before) = suits_answer heard
 suits_entry (Err refusal) (hears heard ∷ before) = suits_refused heard refusal
 suits_entry outcome [] = tt
+suits_entry outcome (listens ∷ before) = tt
 suits_entry outcome (says out now ∷ before) = tt
 suits_entry outcome (records kept other ∷ before) = tt
 suits_entry outcome (passes brief ∷ before) = tt
@@ -129,6 +130,7 @@ suits_taken (Err refusal) = tt
 
 suits_step : (step : Step) (before : List Step) → Suits (due (step ∷ before)) (CameUp step before)
 suits_step (hears heard) before = suits_heard heard before
+suits_step listens before = tt
 suits_step (says out now) before = suits_said out
 suits_step (records kept outcome) before = suits_entry outcome before
 suits_step (passes brief) before = tt
@@ -144,6 +146,7 @@ came_up step before is = subst (λ (owed : Due). Suits owed (CameUp step before)
 none_waits : (steps : List Step) → due steps ≡ come_up → open_login steps ≡ None
 none_waits [] is = absurd (let e : log_in ≡ come_up = is in cc)
 none_waits (hears heard ∷ before) is = (came_up (hears heard) before is).0
+none_waits (listens ∷ before) is = absurd (came_up listens before is)
 none_waits (says out now ∷ before) is = absurd (came_up (says out now) before is)
 none_waits (records kept outcome ∷ before) is = absurd (came_up (records kept outcome) before is)
 none_waits (passes brief ∷ before) is = absurd (came_up (passes brief) before is)
@@ -216,11 +219,12 @@ up_passes terms brief before (say out) is passes_so rest up = absurd (let e : No
 up_passes terms brief before (over cause) is passes_so rest up = absurd (let e : None ≡ Some brief = passes_so in cc)
 up_passes terms brief before left is passes_so rest up = absurd (let e : None ≡ Some brief = passes_so in cc)
 
-module _ (terms : Terms) where
+module _ (next_tag : Option ℕ → ℕ) (terms : Terms) where
   -- a link that is up has no login that waits
-  pub up_none_waits : (steps : List Step) → AreSteps terms steps → is_up steps ≡ true → NoneWaits steps
+  pub up_none_waits : (steps : List Step) → AreSteps next_tag terms steps → is_up steps ≡ true → NoneWaits steps
   up_none_waits [] are up = absurd (false≢true up)
   up_none_waits (hears heard ∷ before) are up = gone_heard heard (open_login before) (up_none_waits before are.1 up)
+  up_none_waits (listens ∷ before) are up = up_none_waits before are.1 up
   up_none_waits (says out now ∷ []) are up = absurd (false≢true up)
   up_none_waits (says out now ∷ step ∷ before) are up =
       gone_said out now (open_login (step ∷ before)) (up_none_waits (step ∷ before) are.1 up)
@@ -238,13 +242,14 @@ module _ (terms : Terms) where
   up_none_waits (leaves (passing.ReturnedArrival arrival) ∷ before) are up = absurd are.0
 
   -- a link that is to come up is down
-  pub comes_up_down : (steps : List Step) → AreSteps terms steps → due steps ≡ come_up → is_up steps ≡ false
+  pub comes_up_down : (steps : List Step) → AreSteps next_tag terms steps → due steps ≡ come_up → is_up steps ≡ false
   comes_up_down [] are is = refl
   comes_up_down (hears heard ∷ before) are is =
       elim (cases_Bool (is_up before)) [
         | inl up ↦ absurd ((came_up (hears heard) before is).1 (up_none_waits before are.1 up))
         | inr down ↦ down
       ]
+  comes_up_down (listens ∷ before) are is = absurd (came_up listens before is)
   comes_up_down (says out now ∷ before) are is = absurd (came_up (says out now) before is)
   comes_up_down (records kept outcome ∷ before) are is = absurd (came_up (records kept outcome) before is)
   comes_up_down (passes brief ∷ before) are is = absurd (came_up (passes brief) before is)

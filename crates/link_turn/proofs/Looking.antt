@@ -1,4 +1,5 @@
 -- A session looks at what it keeps, and at the clock.
+use Rattle.link_core.specs.Protocol.{Protocol}
 use Rattle.std.proofs.Common.{◌≡◌, ◌∙◌, refl, sym, ap, subst, ℕ, ◌+◌, ◌<◌, ◌≤◌, Bool, true, false, inl, inr, ◌⊎◌, List, [], ◌∷◌, ◌++◌, length, take, drop, append_assoc, arith, length-append}
 use Rattle.std.specs.Prelude.{All, Option, Some, None, IfSome}
 use Rattle.std.specs.List.{Contains}
@@ -9,14 +10,14 @@ use Rattle.link_core.specs.Grammar.{IsFrame, HasFirst, NoneComes, IsGrammar}
 use Rattle.link_core.specs.Streams.{AreFrames}
 use Rattle.link_core.specs.declared.heard.Heard.{Heard}
 use Rattle.link_core.specs.declared.out.Out.{Out}
-use Rattle.link_turn.specs.Steps.{heards_in}
+use Rattle.link_turn.specs.Steps.{listens, heards_in}
 use Rattle.link_turn.specs.Back.{is_up, last_said}
 use Rattle.std.specs.Prelude.{find, option_map, ◌-◌, ◌&&◌, not, nat_lt, nat_le}
 use Rattle.std.proofs.lemmas.Bool.{cases_Bool, ltb-true, ltb-false, leb-false, false≢true}
 use Rattle.std.proofs.lemmas.List.Elements.{All-nil, All-cons, Contains-append_left, Contains-append_right, Contains-push}
-use Rattle.link_turn.specs.Session.{Talk, Rests, IsLate, IsTimely, Waits, NoneIsLate, is_late}
-use Rattle.link_turn.specs.SessionSteps.{Keeps, Frames, IsReady, Ends, Heeds, Faces, Stands, StandsIn}
-use Rattle.link_turn.specs.Talk.{IsIdle, IsUnanswered, IsCause}
+use Rattle.link_turn.specs.Session.{Talk, messages, Rests, IsLate, IsTimely, Waits, NoneIsLate, is_late}
+use Rattle.link_turn.specs.SessionSteps.{AreApart, with_step_at, with_octets, Keeps, Frames, IsHere, IsReady, Ends, Heeds, Faces, Stands, StandsIn}
+use Rattle.link_turn.specs.Talk.{IsIdle, IsLast, IsUnanswered, IsCause}
 use Rattle.link_turn.specs.declared.end_cause.EndCause.{EndCause}
 use Rattle.link_turn.specs.declared.end_cause.EndCause.TheVariants as end_is
 use Rattle.link_turn.specs.declared.session.Phase.{Phase}
@@ -27,7 +28,7 @@ use Rattle.link_turn.specs.declared.submitted.Submitted.{Submitted}
 use Rattle.link_turn.specs.declared.terms.Terms.{Terms}
 use Rattle.link_turn.specs.declared.wish.Wish.{Wish}
 use Rattle.link_turn.specs.declared.wish.Wish.TheVariants as wish_is
-use Rattle.link_turn.proofs.Keeping.{AreAlike, ready_same, agrees_same, holds_same}
+use Rattle.link_turn.proofs.Keeping.{AreAlike, ready_same, listened_ready}
 use Rattle.link_turn.proofs.Readings.{frames_one}
 
 -- ---- octets
@@ -66,78 +67,111 @@ front_is_short hears_so holds most octets grammar front =
 pub none_has_none : (hears_so : List ℕ → Heard → Type 0) (octets : List ℕ) → NoneComes (IsFrame hears_so) octets → ¬ HasFirst (IsFrame hears_so) octets
 none_has_none hears_so octets none first = none [] (subst (HasFirst (IsFrame hears_so)) (sym (append-nil octets)) first)
 
-module _ {C : Type 0} (hears_so : List ℕ → Heard → Type 0) (refuses : List ℕ → ℕ → ℕ → Type 0) (said : C → Out → List ℕ) (core : C) (terms : Terms) where
+module _ {C : Type 0} (protocol : Protocol C) (core : C) (terms : Terms) where
   -- it is at an end that is due to nothing that it said or heard
-  pub ends_idle : (cause : EndCause) (talk : Talk) (s : Session C) → IsReady hears_so refuses said core terms talk s → Frames hears_so refuses said core terms talk s
-      → IsCause hears_so refuses (said core) terms cause talk.steps s.kept talk.cut → Ends hears_so refuses said core terms cause None talk s
+  pub ends_idle : (cause : EndCause) (talk : Talk) (s : Session C) → IsReady protocol core terms talk s → Frames protocol core terms talk s
+      → IsCause protocol core terms cause talk.steps talk.readings s.kept talk.cut → Ends protocol core terms cause None talk s
   ends_idle cause talk s r f is = record {
     agrees = r.keeps.agrees;
     staying = r.keeps.staying;
+    used = r.keeps.used;
     holds = r.holds;
     rest = s.kept;
     frames = f;
     caused = is;
   }
 
-  pub idle_here : (talk : Talk) (s : Session C) → IsReady hears_so refuses said core terms talk s → ¬ HasFirst (IsFrame hears_so) s.kept → IsIdle hears_so refuses (said core) terms talk.steps s.kept talk.cut
-  idle_here talk s r none = record { nothing_due = r.nothing_due; all_handled = none; whole = r.whole }
+  pub idle_here : (talk : Talk) (s : Session C) → IsReady protocol core terms talk s → ¬ HasFirst (IsFrame protocol.hears) s.kept → IsIdle protocol core terms talk.steps talk.readings s.kept talk.cut
+  idle_here talk s r none = record { nothing_due = r.nothing_due; all_handled = none; whole = record { none_cut = r.whole; timed = r.keeps.timed } }
 
   -- there was no memory for what came
-  pub heeds_not : (octets : List ℕ) (talk : Talk) (s t : Session C) → Heeds hears_so refuses said core terms octets talk s → t.core ≡ s.core → t.terms ≡ s.terms → t.up ≡ s.up → t.in_use.items ≡ s.in_use.items
-      → Ends hears_so refuses said core terms end_is.Memory None talk t
-  heeds_not octets talk s t h ce te ue ie = record {
-    agrees = agrees_same hears_so refuses said core terms talk s t ce te ue ie h.ready.keeps.agrees;
-    staying = h.ready.keeps.staying;
-    holds = holds_same hears_so refuses said core terms None talk s t ie h.ready.holds;
-    rest = s.kept ++ octets;
-    frames = h.frames;
-    caused = inl h.ready.whole;
-  }
+  pub heeds_not : (octets : List ℕ) (talk : Talk) (s t : Session C) → Heeds protocol core terms octets talk s → t.core ≡ s.core → t.terms ≡ s.terms → t.up ≡ s.up → t.in_use.items ≡ s.in_use.items
+      → Ends protocol core terms end_is.Memory None (with_octets octets (with_step_at s.latest listens talk)) t
+  heeds_not octets talk s t h ce te ue ie =
+      let k = h.ready.keeps in record {
+        agrees = record {
+          core_is = ce ∙ k.agrees.core_is;
+          terms_are = te ∙ k.agrees.terms_are;
+          each = (h.ready.nothing_due, k.agrees.each);
+          is_up = ue ∙ k.agrees.is_up;
+          apart = subst AreApart (sym ie) k.agrees.apart;
+        };
+        staying = refl;
+        used = ie ∙ k.used;
+        holds = record { others = h.ready.holds.others ∙ ap messages (sym ie); among = tt };
+        rest = s.kept ++ octets;
+        frames = h.frames;
+        caused = inl (record { none_cut = h.ready.whole; timed = (talk.readings, s.latest, refl, tt, tt, k.timed) });
+      }
+
+  -- octets came
+  pub heeds_ready : (octets : List ℕ) (talk : Talk) (s t : Session C) → Heeds protocol core terms octets talk s → AreAlike s t → t.in_use.items ≡ s.in_use.items → t.login ≡ s.login
+      → (t.searched ≡ true → ⊥) → IsReady protocol core terms (with_octets octets (with_step_at s.latest listens talk)) t
+  heeds_ready octets talk s t h like ie le found =
+      let r = listened_ready protocol core terms talk s t like ie le found h.ready in
+      let a = r.keeps.agrees in record {
+        keeps = record {
+          agrees = record { core_is = a.core_is; terms_are = a.terms_are; each = a.each; is_up = a.is_up; apart = a.apart };
+          staying = r.keeps.staying;
+          timed = r.keeps.timed;
+          used = r.keeps.used;
+          asked = r.keeps.asked;
+          spoke = r.keeps.spoke;
+          found = r.keeps.found;
+        };
+        holds = record { others = r.holds.others; among = tt };
+        nothing_due = r.nothing_due;
+        tagged = r.tagged;
+        whole = r.whole;
+      }
 
   -- a frame stands in front of what is kept
-  pub faces : (heard : Heard) (len : ℕ) (talk : Talk) (s t : Session C) → IsReady hears_so refuses said core terms talk s → Frames hears_so refuses said core terms talk s → AreAlike s t
-      → t.in_use.items ≡ s.in_use.items → t.login ≡ s.login → t.kept ≡ drop len s.kept → hears_so (take len s.kept) heard → Faces hears_so refuses said core terms heard talk t
+  pub faces : (heard : Heard) (len : ℕ) (talk : Talk) (s t : Session C) → IsReady protocol core terms talk s → IsHere protocol core terms talk s → AreAlike s t
+      → t.in_use.items ≡ s.in_use.items → t.login ≡ s.login → t.kept ≡ drop len s.kept → protocol.hears (take len s.kept) heard → Faces protocol core terms heard talk t
   faces heard len talk s t r f like ie le ke is =
-      let parts : AreFrames hears_so talk.heard (heards_in talk.steps) (take len s.kept ++ drop len s.kept) =
-      subst (λ (kept : List ℕ). AreFrames hears_so talk.heard (heards_in talk.steps) kept) (sym (take-append-drop len s.kept)) f in record {
-        ready = ready_same hears_so refuses said core terms talk s t like ie le r;
-        frames = subst (λ (kept : List ℕ). AreFrames hears_so talk.heard (heards_in talk.steps ++ heard ∷ []) kept) (sym ke)
-            (frames_one hears_so talk.heard (heards_in talk.steps) (take len s.kept) (drop len s.kept) heard parts is);
+      let parts : AreFrames protocol.hears talk.heard (heards_in talk.steps) (take len s.kept ++ drop len s.kept) =
+      subst (λ (kept : List ℕ). AreFrames protocol.hears talk.heard (heards_in talk.steps) kept) (sym (take-append-drop len s.kept)) f.frames in record {
+        ready = ready_same protocol core terms talk s t like ie le r;
+        frames = subst (λ (kept : List ℕ). AreFrames protocol.hears talk.heard (heards_in talk.steps ++ heard ∷ []) kept) (sym ke)
+            (frames_one protocol.hears talk.heard (heards_in talk.steps) (take len s.kept) (drop len s.kept) heard parts is);
+        latest = subst (λ (now : ℕ). IsLast now talk.readings) (sym like.now) f.latest;
       }
 
   -- ---- by the clock
 
-  unanswered : (asked : Asked) (talk : Talk) (s : Session C) → Keeps hears_so refuses said core terms talk s → Waits s asked → IsUnanswered asked.tag asked.said talk.steps
+  unanswered : (asked : Asked) (talk : Talk) (s : Session C) → Keeps protocol core terms talk s → Waits s asked → IsUnanswered asked.tag asked.said talk.steps
   unanswered asked talk s k waits =
       elim waits [
         | inl login ↦ inl (sym k.asked ∙ login)
         | inr one ↦ inr (one.0, subst (λ (us : List Submitted). Contains us (record { message = one.0; asked = asked })) k.used one.1)
       ]
 
-  pub too_late : (asked : Asked) (talk : Talk) (s : Session C) → IsReady hears_so refuses said core terms talk s → Frames hears_so refuses said core terms talk s → ¬ HasFirst (IsFrame hears_so) s.kept
-      → Waits s asked → IsLate s asked → Ends hears_so refuses said core terms (end_is.NoReply asked.tag asked.said s.latest) None talk s
-  too_late asked talk s r f none waits late =
+  pub too_late : (asked : Asked) (talk : Talk) (s : Session C) → IsReady protocol core terms talk s → IsHere protocol core terms talk s → ¬ HasFirst (IsFrame protocol.hears) s.kept
+      → IsProperFront (IsFrame protocol.hears) s.kept
+      → Waits s asked → IsLate s asked → Ends protocol core terms (end_is.NoReply asked.tag asked.said s.latest) None talk s
+  too_late asked talk s r f none front waits late =
       let k = r.keeps in
       let over : asked.said + terms.wait_ack < s.latest = subst (λ (x : Terms). asked.said + x.wait_ack < s.latest) k.agrees.terms_are late in
-      ends_idle (end_is.NoReply asked.tag asked.said s.latest) talk s r f (idle_here talk s r none, unanswered asked talk s k waits, over)
+      ends_idle (end_is.NoReply asked.tag asked.said s.latest) talk s r f.frames ((idle_here talk s r none, front), unanswered asked talk s k waits, over, f.latest)
 
-  pub takes_so : (talk : Talk) (s t : Session C) (wish : Wish) → IsReady hears_so refuses said core terms talk s → Frames hears_so refuses said core terms talk s → AreAlike s t
+  pub takes_so : (talk : Talk) (s t : Session C) (wish : Wish) → IsReady protocol core terms talk s → IsHere protocol core terms talk s → AreAlike s t
       → t.in_use.items ≡ s.in_use.items → t.login ≡ s.login → t.kept ≡ s.kept → t.phase ≡ Taking → s.up ≡ true → t.searched ≡ false → wish ≡ wish_is.TakeNext t.latest
-      → Stands hears_so refuses said core terms wish talk t
+      → Stands protocol core terms wish talk t
   takes_so talk s t wish r f like ie le ke pe up isnt we =
-      subst (λ (p : Phase). StandsIn hears_so refuses said core terms p wish talk t) (sym pe) (
+      subst (λ (p : Phase). StandsIn protocol core terms p wish talk t) (sym pe) (
         we,
-        ready_same hears_so refuses said core terms talk s t like ie le r,
-        subst (λ (kept : List ℕ). AreFrames hears_so talk.heard (heards_in talk.steps) kept) (sym ke) f,
+        ready_same protocol core terms talk s t like ie le r,
+        subst (λ (kept : List ℕ). AreFrames protocol.hears talk.heard (heards_in talk.steps) kept) (sym ke) f.frames,
         sym r.keeps.agrees.is_up ∙ up,
         isnt,
+        subst (λ (now : ℕ). IsLast now talk.readings) (sym like.now) f.latest,
       )
 
-  pub listens_so : (talk : Talk) (s t : Session C) (wish : Wish) → IsReady hears_so refuses said core terms talk s → Frames hears_so refuses said core terms talk s → AreAlike s t
-      → t.in_use.items ≡ s.in_use.items → t.login ≡ s.login → t.kept ≡ s.kept → t.phase ≡ Listening → wish ≡ wish_is.Listen → ¬ HasFirst (IsFrame hears_so) s.kept → NoneIsLate s
+  pub listens_so : (talk : Talk) (s t : Session C) (wish : Wish) → IsReady protocol core terms talk s → Frames protocol core terms talk s → AreAlike s t
+      → t.in_use.items ≡ s.in_use.items → t.login ≡ s.login → t.kept ≡ s.kept → t.phase ≡ Listening → wish ≡ wish_is.Listen → ¬ HasFirst (IsFrame protocol.hears) s.kept → IsProperFront (IsFrame protocol.hears) s.kept → NoneIsLate s
       → (s.up ≡ true → (length s.in_use.items ≡ s.terms.window) ⊎ (s.searched ≡ true)) → (s.up ≡ true → (s.terms.keepalive ≡ 0) ⊎ (s.latest < s.last_said + s.terms.keepalive))
-      → Stands hears_so refuses said core terms wish talk t
-  listens_so talk s t wish r f like ie le ke pe we front none taken silence =
+      → Stands protocol core terms wish talk t
+  listens_so talk s t wish r f like ie le ke pe we front proper none taken silence =
       let k = r.keeps in
       let te = k.agrees.terms_are in
       let up : is_up talk.steps ≡ true → s.up ≡ true = λ e. k.agrees.is_up ∙ e in
@@ -155,12 +189,13 @@ module _ {C : Type 0} (hears_so : List ℕ → Heard → Type 0) (refuses : List
           | inr soon ↦ inr (subst (λ (x : Terms). s.latest < last_said talk.steps + x.keepalive) te (subst (λ (l : ℕ). s.latest < l + s.terms.keepalive) k.spoke soon))
         ];
       } in
-      subst (λ (p : Phase). StandsIn hears_so refuses said core terms p wish talk t) (sym pe) (
+      subst (λ (p : Phase). StandsIn protocol core terms p wish talk t) (sym pe) (
         we,
-        ready_same hears_so refuses said core terms talk s t like ie le r,
-        subst (λ (kept : List ℕ). AreFrames hears_so talk.heard (heards_in talk.steps) kept) (sym ke) f,
-        subst (λ (kept : List ℕ). ¬ HasFirst (IsFrame hears_so) kept) (sym ke) front,
+        ready_same protocol core terms talk s t like ie le r,
+        subst (λ (kept : List ℕ). AreFrames protocol.hears talk.heard (heards_in talk.steps) kept) (sym ke) f,
+        subst (λ (kept : List ℕ). ¬ HasFirst (IsFrame protocol.hears) kept) (sym ke) front,
         subst (λ (now : ℕ). Rests terms now talk.steps) (sym like.now) rests,
+        subst (λ (kept : List ℕ). IsProperFront (IsFrame protocol.hears) kept) (sym ke) proper,
       )
 
 -- ---- what waits too long

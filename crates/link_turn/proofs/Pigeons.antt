@@ -6,6 +6,7 @@ use Rattle.std.proofs.lemmas.Bool.{cases_Bool, cases_eq, eqb-true, false≢true}
 use Rattle.link_core.specs.Tags.{nth_tag, AreTags}
 use Rattle.link_turn.specs.Back.{has_tag, without_tag, IsFree}
 use Rattle.link_turn.specs.Session.{IsTag}
+use Rattle.link_turn.specs.Talk.{IsNextFree}
 use Rattle.link_turn.specs.declared.submitted.Submitted.{Submitted}
 use Rattle.link_turn.proofs.Uses.{free_here, free_behind, free_both, other}
 
@@ -119,26 +120,29 @@ free_test true tag uses is = ((λ t. absurd (false≢true t)), λ free. absurd (
 free_test false tag uses is = ((λ t. any_free tag uses (sym is)), λ free. refl)
 
 -- so many tags were tried, all of them in use, and the next one comes behind them
-pub record Tried (next : Option ℕ → ℕ) (last : Option ℕ) (count : ℕ) (uses : List Submitted) : Type 0 where
+pub record Tried (next : Option ℕ → ℕ) (start last : Option ℕ) (count : ℕ) (uses : List Submitted) : Type 0 where
   pub first : ℕ
+  pub began : IsNextTag next start first
   pub following : IsNextTag next last (first + count)
   pub used : (i : ℕ) → i < count → ¬ IsFree (nth_tag next (first + i)) uses
   pub tag : IsTag next last
 
-pub none_tried : (next : Option ℕ → ℕ) (last : Option ℕ) (uses : List Submitted) → IsTag next last → Tried next last 0 uses
+pub none_tried : (next : Option ℕ → ℕ) (last : Option ℕ) (uses : List Submitted) → IsTag next last → Tried next last last 0 uses
 none_tried next last uses tag =
     let first = next_tag_first next last tag in record {
       first = first.0;
+      began = first.1;
       following = subst (IsNextTag next last) (omega arith) first.1;
       used = λ i less. absurd (omega (arith, less));
       tag = tag;
     }
 
-pub one_tried : (next : Option ℕ → ℕ) (last : Option ℕ) (count tag : ℕ) (uses : List Submitted) → Tried next last count uses → tag ≡ next last → ¬ IsFree tag uses
-    → Tried next (Some tag) (count + 1) uses
-one_tried next last count tag uses t is used =
+pub one_tried : (next : Option ℕ → ℕ) (start last : Option ℕ) (count tag : ℕ) (uses : List Submitted) → Tried next start last count uses → tag ≡ next last → ¬ IsFree tag uses
+    → Tried next start (Some tag) (count + 1) uses
+one_tried next start last count tag uses t is used =
     let then_ = next_tag_then next last (t.first + count) tag t.following is in record {
       first = t.first;
+      began = t.began;
       following = subst (IsNextTag next (Some tag)) (omega arith) then_.0;
       used = λ i less. elim (lt_or_last i count less) [
         | inl below ↦ t.used i below
@@ -149,12 +153,24 @@ one_tried next last count tag uses t is used =
     }
 
 -- the tag behind them
-pub tag_behind : (next : Option ℕ → ℕ) (last : Option ℕ) (count tag : ℕ) (uses : List Submitted) → Tried next last count uses → tag ≡ next last → IsTag next (Some tag)
-tag_behind next last count tag uses t is = (next_tag_then next last (t.first + count) tag t.following is).1
+pub tag_behind : (next : Option ℕ → ℕ) (start last : Option ℕ) (count tag : ℕ) (uses : List Submitted) → Tried next start last count uses → tag ≡ next last → IsTag next (Some tag)
+tag_behind next start last count tag uses t is = (next_tag_then next last (t.first + count) tag t.following is).1
 
-pub tag_holds : (next : Option ℕ → ℕ) (tags : ℕ) (holds : ℕ → Type 0) (last : Option ℕ) (count tag : ℕ) (uses : List Submitted) → AreTags next tags holds → Tried next last count uses → tag ≡ next last → holds tag
-tag_holds next tags holds last count tag uses are t is = subst holds (sym (is ∙ t.following)) (are.held (t.first + count))
+pub tag_holds : (next : Option ℕ → ℕ) (tags : ℕ) (holds : ℕ → Type 0) (start last : Option ℕ) (count tag : ℕ) (uses : List Submitted) → AreTags next tags holds → Tried next start last count uses → tag ≡ next last → holds tag
+tag_holds next tags holds start last count tag uses are t is = subst holds (sym (is ∙ t.following)) (are.held (t.first + count))
 
-pub tag_free : (next : Option ℕ → ℕ) (tags : ℕ) (holds : ℕ → Type 0) (last : Option ℕ) (tag : ℕ) (uses : List Submitted) → AreTags next tags holds → length uses + 1 < tags
-    → Tried next last (length uses) uses → tag ≡ next last → IsFree tag uses
-tag_free next tags holds last tag uses are few t is = tag_is_free next tags holds t.first uses tag are few t.used (is ∙ t.following)
+-- it is the next one, where it is free
+pub tag_next : (next : Option ℕ → ℕ) (start last : Option ℕ) (count tag : ℕ) (uses : List Submitted) → Tried next start last count uses → tag ≡ next last → IsFree tag uses → IsNextFree next start uses tag
+tag_next next start last count tag uses t is free = record {
+  first = t.first;
+  over = count;
+  follows = t.began;
+  used = t.used;
+  is = is ∙ t.following;
+  free = free;
+}
+
+pub tag_free : (next : Option ℕ → ℕ) (tags : ℕ) (holds : ℕ → Type 0) (start last : Option ℕ) (tag : ℕ) (uses : List Submitted) → AreTags next tags holds → length uses + 1 < tags
+    → Tried next start last (length uses) uses → tag ≡ next last → IsNextFree next start uses tag
+tag_free next tags holds start last tag uses are few t is =
+    tag_next next start last (length uses) tag uses t is (tag_is_free next tags holds t.first uses tag are few t.used (is ∙ t.following))

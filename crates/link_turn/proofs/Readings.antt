@@ -1,39 +1,13 @@
 -- Times that are readings, and frames that are cut off what was heard.
-use Rattle.std.proofs.Common.{◌∙◌, refl, ap, ℕ, ◌<◌, ◌^◌, inl, inr, List, [], ◌∷◌, ◌++◌, append_assoc}
+use Rattle.std.proofs.Common.{◌∙◌, refl, ap, ℕ, ◌<◌, ◌^◌, List, [], ◌∷◌, ◌++◌, append_assoc}
 use Rattle.std.specs.Prelude.{All}
 use Rattle.std.proofs.lemmas.List.Elements.{All-nil, All-cons}
 use Rattle.link_core.specs.Streams.{AreFrames}
 use Rattle.link_core.specs.declared.heard.Heard.{Heard}
-use Rattle.link_turn.specs.Talk.{AreReadings}
 
 -- an entry that has one time
 pub one_timed : (time : ℕ) → time < 2 ^ 37 → All (λ (t : ℕ). t < 2 ^ 37) (time ∷ [])
 one_timed time before = All-cons (λ (t : ℕ). t < 2 ^ 37) time [] before (All-nil (λ (t : ℕ). t < 2 ^ 37))
-
--- one reading more
-pub readings_more : (times readings : List ℕ) (now : ℕ) → AreReadings times readings → AreReadings times (readings ++ now ∷ [])
-readings_more [] readings now are = tt
-readings_more (time ∷ times) [] now are = absurd are
-readings_more (time ∷ times) (reading ∷ readings) now are =
-    elim are [
-      | inl here ↦ inl (here.0, readings_more times (reading ∷ readings) now here.1)
-      | inr later ↦ inr (readings_more (time ∷ times) readings now later)
-    ]
-
--- the last reading is the time of one thing more
-pub readings_last : (times readings : List ℕ) (now : ℕ) → AreReadings times (readings ++ now ∷ []) → AreReadings (times ++ now ∷ []) (readings ++ now ∷ [])
-readings_last [] [] now are = inl (refl, tt)
-readings_last [] (reading ∷ readings) now are = inr (readings_last [] readings now tt)
-readings_last (time ∷ times) [] now are =
-    elim are [
-      | inl here ↦ inl (here.0, readings_last times [] now here.1)
-      | inr later ↦ absurd later
-    ]
-readings_last (time ∷ times) (reading ∷ readings) now are =
-    elim are [
-      | inl here ↦ inl (here.0, readings_last times (reading ∷ readings) now here.1)
-      | inr later ↦ inr (readings_last (time ∷ times) readings now later)
-    ]
 
 module _ (hears : List ℕ → Heard → Type 0) where
   -- more octets came

@@ -16,7 +16,7 @@ use Rattle.kn_base.proofs.Talks.{said_of-append, heard_of-append, with_more-nil,
 use Rattle.link_core.specs.declared.out.Out.{Out}
 use Rattle.store_disk.specs.Meaning.{Meaning}
 use Rattle.link_turn.specs.Session.{Talk, GoesOn, spoken_in, heard_by, spoken_by, deeds_by, MayBeCut, IsCutShort}
-use Rattle.link_turn.specs.Steps.{Deed, performed, passed, took, deeds_in}
+use Rattle.link_turn.specs.Steps.{Step, Deed, performed, passed, took, deeds_in}
 use Rattle.link_turn.specs.Turn.{IsReading, Leads, TalksOn}
 use Rattle.link_turn.specs.TurnSteps.{Does, HearsSo, BeginsWith}
 use Rattle.link_turn.specs.declared.given.Given.{Given}
@@ -54,6 +54,8 @@ module _ {D : Type 0} (meaning : Meaning D) where
     in_time = All-nil IsReading;
     clock = AddsAll-nil told;
     done = refl;
+    more = [];
+    grown = refl;
     led = refl;
     fell = fell_same course.counts course.counts refl;
   }
@@ -74,6 +76,8 @@ module _ {D : Type 0} (meaning : Meaning D) where
     in_time = All-append IsReading one.readings two.readings one.in_time two.in_time;
     clock = AddsAll-append one.readings two.readings told between now one.clock two.clock;
     done = two.done ∙ ap (λ (ds : List Deed). two.deeds ++ ds) one.done ∙ sym (append_assoc two.deeds one.deeds (deeds_in talk.steps));
+    more = two.more ++ one.more;
+    grown = two.grown ∙ ap (λ (xs : List Step). two.more ++ xs) one.grown ∙ sym (append_assoc two.more one.more talk.steps);
     led = leads_then link store amid after one.deeds two.deeds one.led two.led;
     fell = fell_then a.counts b.counts c.counts one.fell two.fell;
   }
@@ -239,6 +243,8 @@ module _ {D : Type 0} (meaning : Meaning D) where
     in_time = All-cons IsReading now [] soon (All-nil IsReading);
     clock = adds;
     done = goes.deeds;
+    more = goes.more;
+    grown = goes.grown;
     led = comes.led;
     fell = comes.fell;
   }

@@ -1,5 +1,5 @@
 -- What the steps of a session come to, each thing found by looking back over them from the newest.
-use Rattle.std.specs.Prelude.{◌≡◌, ℕ, ◌==◌, Bool, true, false, not, List, [], ◌∷◌, ◌++◌, filter, find, Option, Some, None, option_map, Result, Ok, Err, if◌then◌else◌}
+use Rattle.std.specs.Prelude.{◌≡◌, ℕ, map, ◌==◌, Bool, true, false, not, List, [], ◌∷◌, ◌++◌, filter, find, Option, Some, None, option_map, Result, Ok, Err, if◌then◌else◌}
 use Rattle.gate_entries.specs.declared.passing.Passing.{Passing}
 use Rattle.gate_entries.specs.declared.passing.Passing.TheVariants as passing
 use Rattle.gate_entries.specs.declared.recorded.Recorded.{Recorded}
@@ -12,7 +12,7 @@ use Rattle.link_core.specs.declared.heard.Heard.{Heard}
 use Rattle.link_core.specs.declared.heard.Heard.TheVariants as heard_is
 use Rattle.link_core.specs.declared.out.Out.{Out}
 use Rattle.link_core.specs.declared.out.Out.TheVariants as out_is
-use Rattle.link_turn.specs.Steps.{Step, hears, says, records, passes, takes, leaves}
+use Rattle.link_turn.specs.Steps.{Step, hears, listens, says, records, passes, takes, leaves}
 use Rattle.link_turn.specs.declared.submitted.Asked.{Asked}
 use Rattle.link_turn.specs.declared.submitted.Submitted.{Submitted}
 
@@ -35,6 +35,7 @@ login_said out now login = login
 abbrev pub open_login : List Step → Option Asked
 open_login [] = None
 open_login (hears heard ∷ before) = login_heard heard (open_login before)
+open_login (listens ∷ before) = open_login before
 open_login (says out now ∷ before) = login_said out now (open_login before)
 open_login (records kept outcome ∷ before) = open_login before
 open_login (passes brief ∷ before) = open_login before
@@ -64,6 +65,7 @@ uses_said out now uses = uses
 abbrev pub in_use : List Step → List Submitted
 in_use [] = []
 in_use (hears heard ∷ before) = uses_heard heard (in_use before)
+in_use (listens ∷ before) = in_use before
 in_use (says out now ∷ before) = uses_said out now (in_use before)
 in_use (records kept outcome ∷ before) = in_use before
 in_use (passes brief ∷ before) = in_use before
@@ -74,9 +76,32 @@ in_use (leaves brief ∷ before) = in_use before
 abbrev pub message_under : (tag : ℕ) → List Submitted → Option ℕ
 message_under tag uses = option_map (λ submitted. submitted.message) (find (has_tag tag) uses)
 
+-- the messages that are out: said, and without an answer
+abbrev pub messages_out : List Step → List ℕ
+messages_out steps = map (λ submitted. submitted.message) (in_use steps)
+
 -- no message has the tag
 abbrev pub IsFree : (tag : ℕ) → List Submitted → Type 0
 IsFree tag uses = find (has_tag tag) uses ≡ None
+
+-- ---- the tags of what is said unasked
+
+abbrev pub tag_said : Out → Option ℕ → Option ℕ
+tag_said (out_is.Login tag) last = Some tag
+tag_said (out_is.Submit tag number sms at) last = Some tag
+tag_said (out_is.Keep tag) last = Some tag
+tag_said out last = last
+
+-- the tag of what was said last unasked
+abbrev pub last_tag : List Step → Option ℕ
+last_tag [] = None
+last_tag (hears heard ∷ before) = last_tag before
+last_tag (listens ∷ before) = last_tag before
+last_tag (says out now ∷ before) = tag_said out (last_tag before)
+last_tag (records kept outcome ∷ before) = last_tag before
+last_tag (passes brief ∷ before) = last_tag before
+last_tag (takes now outcome ∷ before) = last_tag before
+last_tag (leaves brief ∷ before) = last_tag before
 
 -- ---- messages that are held: taken, and neither ended nor given back
 
@@ -125,6 +150,7 @@ held_taken (Err refusal) held = held
 abbrev pub held : List Step → List ℕ
 held [] = []
 held (hears heard ∷ before) = held before
+held (listens ∷ before) = held before
 held (says out now ∷ before) = held before
 held (records kept outcome ∷ before) = held_recorded kept outcome (held before)
 held (passes brief ∷ before) = without_any (given_back_by brief) (held before)
@@ -152,6 +178,7 @@ up_passed (passing.ReturnedArrival arrival) up = up
 abbrev pub is_up : List Step → Bool
 is_up [] = false
 is_up (hears heard ∷ before) = is_up before
+is_up (listens ∷ before) = is_up before
 is_up (says out now ∷ before) = is_up before
 is_up (records kept outcome ∷ before) = is_up before
 is_up (passes brief ∷ before) = up_passed brief (is_up before)
@@ -162,6 +189,7 @@ is_up (leaves brief ∷ before) = up_passed brief (is_up before)
 abbrev pub last_said : List Step → ℕ
 last_said [] = 0
 last_said (hears heard ∷ before) = last_said before
+last_said (listens ∷ before) = last_said before
 last_said (says out now ∷ before) = now
 last_said (records kept outcome ∷ before) = last_said before
 last_said (passes brief ∷ before) = last_said before
@@ -174,10 +202,11 @@ is_nothing (Ok None) = true
 is_nothing (Ok (Some given)) = false
 is_nothing (Err refusal) = false
 
--- when the store was asked last for a message, it found none
+-- when the store was asked last for a message, it found none, and that was behind the last listening
 abbrev pub found_none : List Step → Bool
 found_none [] = false
 found_none (hears heard ∷ before) = found_none before
+found_none (listens ∷ before) = false
 found_none (says out now ∷ before) = found_none before
 found_none (records kept outcome ∷ before) = found_none before
 found_none (passes brief ∷ before) = found_none before
@@ -188,6 +217,7 @@ found_none (leaves brief ∷ before) = found_none before
 abbrev pub before_end : List Step → List Step
 before_end [] = []
 before_end (hears heard ∷ before) = hears heard ∷ before
+before_end (listens ∷ before) = listens ∷ before
 before_end (says out now ∷ before) = says out now ∷ before
 before_end (records kept outcome ∷ before) = records kept outcome ∷ before
 before_end (passes brief ∷ before) = passes brief ∷ before

@@ -19,7 +19,7 @@ use Rattle.link_core.specs.declared.verdict.Verdict.{Verdict}
 use Rattle.link_core.specs.declared.verdict.Verdict.TheVariants.{Good, Temporary, Permanent}
 use Rattle.sms_record.specs.declared.kind.Kind.{Kind}
 use Rattle.sms_record.specs.declared.sms.Sms.{Sms}
-use Rattle.link_turn.specs.Steps.{Step, hears, says, records, passes, takes, leaves}
+use Rattle.link_turn.specs.Steps.{Step, hears, listens, says, records, passes, takes, leaves}
 use Rattle.link_turn.specs.Back.{open_login, in_use, message_under}
 use Rattle.link_turn.specs.declared.end_cause.EndCause.{EndCause}
 use Rattle.link_turn.specs.declared.end_cause.EndCause.TheVariants as end_is
@@ -132,6 +132,7 @@ due_by_said out = nothing
 abbrev pub due : List Step → Due
 due [] = log_in
 due (hears heard ∷ before) = due_by heard before
+due (listens ∷ before) = nothing
 due (says out now ∷ before) = due_by_said out
 due (records kept outcome ∷ before) = due_by_entry outcome before
 due (passes brief ∷ before) = nothing

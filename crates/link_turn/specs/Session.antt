@@ -7,6 +7,7 @@ use Rattle.gate_model.specs.declared.reply.Refusal.{Refusal}
 use Rattle.gate_store.specs.declared.taken.Taken.{Taken}
 use Rattle.gate_store.specs.declared.taken.Taken.TheVariants as taken
 use Rattle.link_core.specs.Grammar.{IsFrame}
+use Rattle.link_core.specs.Protocol.{Protocol}
 use Rattle.link_core.specs.Saying.{IsSubmit}
 use Rattle.link_core.specs.Tags.{nth_tag}
 use Rattle.link_core.specs.declared.heard.Heard.{Heard}
@@ -88,6 +89,10 @@ module _ {C : Type 0} where
   abbrev pub HasRoom : Session C → Type 0
   HasRoom session = length session.in_use.items < session.terms.window
 
+  -- the same, and there is memory to note it
+  abbrev pub MayNote : Session C → Type 0
+  MayNote session = HasRoom session × (vec_len session.in_use < vec_capacity session.in_use)
+
   -- the store may be asked for a message: there is room for one, and it hasn't said that it has none
   abbrev pub MayTake : Session C → Type 0
   MayTake session = HasRoom session × (session.searched ≡ false)
@@ -95,23 +100,23 @@ module _ {C : Type 0} where
   -- what holds in each phase: the store may be asked where it is, there is room for a message that is said, and an answer can have its tag
   abbrev pub IsPhase : (holds : ℕ → Type 0) → Phase → Session C → Type 0
   IsPhase holds Taking session = MayTake session
-  IsPhase holds (phase_is.Saying (saying_is.Submit tag message)) session = HasRoom session
+  IsPhase holds (phase_is.Saying (saying_is.Submit tag message)) session = MayNote session
   IsPhase holds (phase_is.Recording (recording_is.Report tag)) session = holds tag
   IsPhase holds (phase_is.Recording (recording_is.Message tag)) session = holds tag
   IsPhase holds phase session = ⊤
 
   -- A session has at most as many messages without an answer as may be, and there are more tags than these need.
-  pub record IsWell (tags : ℕ) (next_tag : Option ℕ → ℕ) (session : Session C) : Type 0 where
+  pub record IsWell (protocol : Protocol C) (session : Session C) : Type 0 where
     pub few : length session.in_use.items ≤ session.terms.window
-    pub enough : session.terms.window + 2 ≤ tags
-    pub tag : IsTag next_tag session.last_tag
+    pub enough : session.terms.window + 2 ≤ protocol.tags
+    pub tag : IsTag protocol.next_tag session.last_tag
     pub smsc : length session.terms.smsc ≤ most_name
     pub in_time : session.latest < 2 ^ 37
 
   -- the same, and what holds in its phase
-  pub record IsSession (tags : ℕ) (next_tag : Option ℕ → ℕ) (holds : ℕ → Type 0) (session : Session C) : Type 0 where
-    pub well : IsWell tags next_tag session
-    pub phase : IsPhase holds session.phase session
+  pub record IsSession (protocol : Protocol C) (session : Session C) : Type 0 where
+    pub well : IsWell protocol session
+    pub phase : IsPhase protocol.holds session.phase session
 
   -- ---- what may be given
 
@@ -141,19 +146,19 @@ module _ {C : Type 0} where
 
   -- What a session keeps where it listens: a front of one frame, of fewer octets than a frame has at most, and no more messages without an
   -- answer than may be.
-  pub record IsBounded (hears : List ℕ → Heard → Type 0) (most : ℕ) (session : Session C) : Type 0 where
-    pub front : IsProperFront (IsFrame hears) session.kept
-    pub fewer : length session.kept < most
+  pub record IsBounded (protocol : Protocol C) (session : Session C) : Type 0 where
+    pub front : IsProperFront (IsFrame protocol.hears) session.kept
+    pub fewer : length session.kept < protocol.most
     pub few : length session.in_use.items ≤ session.terms.window
 
   -- where a session wishes to listen, it keeps no more than that
-  abbrev pub Listens : (hears : List ℕ → Heard → Type 0) → (most : ℕ) → Wish → Session C → Type 0
-  Listens hears most wish_is.Listen session = IsBounded hears most session
-  Listens hears most (wish_is.Say octets) session = ⊤
-  Listens hears most (wish_is.Perform kept) session = ⊤
-  Listens hears most (wish_is.Pass brief) session = ⊤
-  Listens hears most (wish_is.TakeNext now) session = ⊤
-  Listens hears most (wish_is.Over cause) session = ⊤
+  abbrev pub Listens : (protocol : Protocol C) → Wish → Session C → Type 0
+  Listens protocol wish_is.Listen session = IsBounded protocol session
+  Listens protocol (wish_is.Say octets) session = ⊤
+  Listens protocol (wish_is.Perform kept) session = ⊤
+  Listens protocol (wish_is.Pass brief) session = ⊤
+  Listens protocol (wish_is.TakeNext now) session = ⊤
+  Listens protocol (wish_is.Over cause) session = ⊤
 
 -- an entry that is to be recorded is one, and its time is a reading of the clock
 abbrev pub MayBeRecorded : Wish → Type 0
@@ -170,15 +175,15 @@ is_late now wait_ack asked = nat_lt wait_ack (now - asked.said)
 
 module _ {C : Type 0} where
   -- What a session is that wished something.
-  pub record IsWished (tags : ℕ) (next_tag : Option ℕ → ℕ) (holds : ℕ → Type 0) (hears : List ℕ → Heard → Type 0) (most : ℕ) (wish : Wish) (session : Session C) : Type 0 where
-    pub sound : IsSession tags next_tag holds session
-    pub listens : Listens hears most wish session
+  pub record IsWished (protocol : Protocol C) (wish : Wish) (session : Session C) : Type 0 where
+    pub sound : IsSession protocol session
+    pub listens : Listens protocol wish session
     pub entry : MayBeRecorded wish
 
   -- the same, where there is nothing to wish yet
-  abbrev pub IsWishedThen : (tags : ℕ) → (next_tag : Option ℕ → ℕ) → (holds : ℕ → Type 0) → (hears : List ℕ → Heard → Type 0) → (most : ℕ) → Option Wish → Session C → Type 0
-  IsWishedThen tags next_tag holds hears most None session = IsWell tags next_tag session
-  IsWishedThen tags next_tag holds hears most (Some wish) session = IsWished tags next_tag holds hears most wish session
+  abbrev pub IsWishedThen : (protocol : Protocol C) → Option Wish → Session C → Type 0
+  IsWishedThen protocol None session = IsWell protocol session
+  IsWishedThen protocol (Some wish) session = IsWished protocol wish session
 
   -- something waits too long for its answer
   abbrev pub IsLate : Session C → Asked → Type 0
@@ -249,6 +254,9 @@ pub record GoesOn (said : Out → List ℕ) (wish : Wish) (given : Given) (now :
   pub readings : new.readings ≡ old.readings ++ now ∷ []
   pub spoken : spoken_in said new ≡ spoken_in said old ++ spoken_by wish given cut
   pub deeds : deeds_in new.steps ≡ deeds_by wish given ++ deeds_in old.steps
+  -- the steps that it took
+  pub more : List Step
+  pub grown : new.steps ≡ more ++ old.steps
 
 -- What holds where a session listens, at a reading of the clock: it has as many messages without an answer as may be or the store had none;
 -- nothing waits too long for its answer; and a link that is up was not silent for too long.

@@ -13,6 +13,8 @@ use Rattle.link_core.specs.declared.out.Out.TheVariants as out_is
 pub data Step : Type 0 where
   -- a frame of the centre was handled
   hears : Heard → Step
+  -- it listened: octets came, nothing came in time, or nothing more comes
+  listens : Step
   -- something was said whole, by this reading of the clock
   says : Out → (now : ℕ) → Step
   -- an entry was handed to the store, which answered so
@@ -28,6 +30,7 @@ pub data Step : Type 0 where
 abbrev pub heards_in : List Step → List Heard
 heards_in [] = []
 heards_in (hears heard ∷ before) = heards_in before ++ heard ∷ []
+heards_in (listens ∷ before) = heards_in before
 heards_in (says out now ∷ before) = heards_in before
 heards_in (records kept outcome ∷ before) = heards_in before
 heards_in (passes brief ∷ before) = heards_in before
@@ -38,6 +41,7 @@ heards_in (leaves brief ∷ before) = heards_in before
 abbrev pub said_in : (Out → List ℕ) → List Step → List ℕ
 said_in said [] = []
 said_in said (hears heard ∷ before) = said_in said before
+said_in said (listens ∷ before) = said_in said before
 said_in said (says out now ∷ before) = said_in said before ++ said out
 said_in said (records kept outcome ∷ before) = said_in said before
 said_in said (passes brief ∷ before) = said_in said before
@@ -68,19 +72,15 @@ times_of_out (out_is.KeepReply tag) = []
 times_of_out (out_is.ByeReply tag) = []
 times_of_out (out_is.Nack tag id) = []
 
--- the times of a step
+-- the times in what is asked for a step
 abbrev pub times_of : Step → List ℕ
 times_of (hears heard) = []
-times_of (says out now) = times_of_out out ++ now ∷ []
+times_of listens = []
+times_of (says out now) = times_of_out out
 times_of (records kept outcome) = times_of_entry kept
 times_of (passes brief) = []
 times_of (takes now outcome) = now ∷ []
 times_of (leaves brief) = []
-
--- the times of steps, the oldest first
-abbrev pub times_in : List Step → List ℕ
-times_in [] = []
-times_in (step ∷ before) = times_in before ++ times_of step
 
 -- ---- what a store was asked to do
 
@@ -93,6 +93,7 @@ pub data Deed : Type 0 where
 abbrev pub deeds_in : List Step → List Deed
 deeds_in [] = []
 deeds_in (hears heard ∷ before) = deeds_in before
+deeds_in (listens ∷ before) = deeds_in before
 deeds_in (says out now ∷ before) = deeds_in before
 deeds_in (records kept outcome ∷ before) = performed kept outcome ∷ deeds_in before
 deeds_in (passes brief ∷ before) = passed brief ∷ deeds_in before

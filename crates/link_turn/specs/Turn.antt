@@ -1,4 +1,5 @@
 -- A turn of a session over a peer and a store: what it needs, what it does to them, and what came of it.
+use Rattle.link_core.specs.Protocol.{Protocol}
 use Rattle.std.specs.Prelude.{◌≡◌, ◌↔◌, ◌⊎◌, ⊤, ℕ, ◌+◌, ◌<◌, ◌≤◌, ◌^◌, Bool, true, false, List, [], ◌∷◌, ◌++◌, length, All, Option, Some, slice_get}
 use Rattle.gate_model.specs.Gate.{HaveIds, lease_under}
 use Rattle.gate_model.specs.State.{State}
@@ -17,7 +18,7 @@ use Rattle.route_rules.specs.declared.link_rule.LinkRule.{LinkRule}
 use Rattle.route_rules.specs.declared.rules.Rules.{Rules}
 use Rattle.store_disk.specs.Meaning.{Meaning}
 use Rattle.link_turn.specs.Back.{IsAmong}
-use Rattle.link_turn.specs.Steps.{Deed, performed, passed, took, deeds_in}
+use Rattle.link_turn.specs.Steps.{Step, Deed, performed, passed, took, deeds_in}
 use Rattle.link_turn.specs.Session.{Talk, IsFresh, IsSession, Rests, messages, used_by, terms_of, now_of, spoken_in}
 use Rattle.link_turn.specs.SessionSteps.{Stands}
 use Rattle.link_turn.specs.Talk.{LinkTalk}
@@ -49,34 +50,32 @@ abbrev pub IsReading : ℕ → Type 0
 IsReading reading = reading < 2 ^ 37
 
 -- Some steps led to where a session is, which listens or hasn't begun.
-pub record WasLed {C : Type 0} (hears : List ℕ → Heard → Type 0) (refuses : List ℕ → ℕ → ℕ → Type 0) (said : C → Out → List ℕ) (session : Session C) : Type 0 where
+pub record WasLed {C : Type 0} (protocol : Protocol C) (session : Session C) : Type 0 where
   pub core : C
   pub terms : Terms
   pub talk : Talk
-  pub stands : Stands hears refuses said core terms Listen talk session
+  pub stands : Stands protocol core terms Listen talk session
   pub in_time : All IsReading talk.readings
 
 -- A session may have a turn over a store: the store is open, and what the link holds there is what the session holds.
 pub record MayTurn
-    {C D : Type 0} (tags : ℕ) (next_tag : Option ℕ → ℕ) (holds : ℕ → Type 0) (kind : LinkKind) (hears : List ℕ → Heard → Type 0)
-    (refuses : List ℕ → ℕ → ℕ → Type 0) (said : C → Out → List ℕ) (meaning : Meaning D) (session : Session C) (store : Store D) (latest : ℕ) : Type 0 where
-  pub sound : IsSession tags next_tag holds session
-  pub led : WasLed hears refuses said session
+    {C D : Type 0} (protocol : Protocol C) (meaning : Meaning D) (session : Session C) (store : Store D) (latest : ℕ) : Type 0 where
+  pub sound : IsSession protocol session
+  pub led : WasLed protocol session
   pub order : now_of session ≤ latest
   pub opened : IsOpen meaning store
   pub ids : HaveIds (rules_in store)
-  pub link : IsLinkOf kind (terms_of session) (rules_in store)
+  pub link : IsLinkOf protocol.kind (terms_of session) (rules_in store)
   pub of : IsOf (terms_of session).link (messages (used_by session)) session.up (state_in store)
 
 -- ---- what came of a turn
 
 -- where the session goes on, it may have another turn; where it ended, its link holds nothing and is down
 abbrev pub MayTurnAgain :
-    {C D : Type 0} → (tags : ℕ) → (next_tag : Option ℕ → ℕ) → (holds : ℕ → Type 0) → (kind : LinkKind) → (hears : List ℕ → Heard → Type 0)
-    → (refuses : List ℕ → ℕ → ℕ → Type 0) → (said : C → Out → List ℕ) → (meaning : Meaning D) → Session C → Turned → Session C → Store D → (latest : ℕ) → Type 0
-MayTurnAgain tags next_tag holds kind hears refuses said meaning old (On heard) session store latest =
-    MayTurn tags next_tag holds kind hears refuses said meaning session store latest × (¬ IsFresh session)
-MayTurnAgain tags next_tag holds kind hears refuses said meaning old (Ended cause) session store latest =
+    {C D : Type 0} → (protocol : Protocol C) → (meaning : Meaning D) → Session C → Turned → Session C → Store D → (latest : ℕ) → Type 0
+MayTurnAgain protocol meaning old (On heard) session store latest =
+    MayTurn protocol meaning session store latest × (¬ IsFresh session)
+MayTurnAgain protocol meaning old (Ended cause) session store latest =
     IsOpen meaning store × IsOf (terms_of old).link [] false (state_in store)
 
 -- What was counted at the peer. A session goes on only where none of its calls failed, and something was heard or a quiet was counted, but in its first turn; and an
@@ -109,19 +108,22 @@ module _ {D : Type 0} (meaning : Meaning D) where
     pub in_time : All IsReading readings
     pub clock : AddsAll readings told now_told
     pub done : deeds_in later.steps ≡ deeds ++ deeds_in talk.steps
+    -- the steps that it took
+    pub more : List Step
+    pub grown : later.steps ≡ more ++ talk.steps
     pub led : Leads link store deeds after
     pub fell : NoneFell old.counts new.counts
 
-  module _ {C : Type 0} (hears : List ℕ → Heard → Type 0) (refuses : List ℕ → ℕ → ℕ → Type 0) (said : C → Out → List ℕ) (core : C) (terms : Terms) where
+  module _ {C : Type 0} (protocol : Protocol C) (core : C) (terms : Terms) where
     -- where a session stands behind a turn: it listens, or what was heard, said and done is the talk of a link that ended
     abbrev pub StandsBehindTurn : Turned → (talk later : Talk) → Session C → Type 0
     StandsBehindTurn (On heard) talk later session =
-        Stands hears refuses said core terms Listen later session × Rests terms (now_of session) later.steps × (length later.heard ≡ length talk.heard + heard)
+        Stands protocol core terms Listen later session × Rests terms (now_of session) later.steps × (length later.heard ≡ length talk.heard + heard)
     StandsBehindTurn (Ended cause) talk later session =
-        LinkTalk hears refuses (said core) terms later.heard (spoken_in (said core) later) later.readings (deeds_in later.steps) cause
+        LinkTalk protocol core terms later.heard (spoken_in (protocol.said core) later) later.readings (deeds_in later.steps) cause
 
     -- A turn: the talk went on, and what came of it.
     pub record Turning (talk : Talk) (old new : Course) (told now_told : Option (List ℕ)) (store after : Store D) (turned : Turned) (session : Session C) : Type 0 where
       pub later : Talk
-      pub talks : TalksOn (said core) terms.link talk later old new told now_told store after
+      pub talks : TalksOn (protocol.said core) terms.link talk later old new told now_told store after
       pub stands : StandsBehindTurn turned talk later session

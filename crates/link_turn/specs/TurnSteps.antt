@@ -1,4 +1,5 @@
 -- The steps of a turn: what is given, by what was done for it. No public clause cites these.
+use Rattle.link_core.specs.Protocol.{Protocol}
 use Rattle.std.specs.Prelude.{◌≡◌, ◌⊎◌, ⊤, ℕ, ◌+◌, ◌*◌, ◌<◌, ◌≤◌, Bool, true, false, List, [], ◌∷◌, All, Option, Some, None, Result, length}
 use Rattle.gate_model.specs.Gate.{HaveIds}
 use Rattle.gate_model.specs.Lawful.{MayPass}
@@ -151,48 +152,46 @@ module _ {C : Type 0} where
 
 -- Some steps led to where a session is that wished something: what its link holds in the store is what these steps hold.
 pub record Wishes
-    {C D : Type 0} (tags : ℕ) (next_tag : Option ℕ → ℕ) (holds : ℕ → Type 0) (kind : LinkKind) (hears : List ℕ → Heard → Type 0)
-    (refuses : List ℕ → ℕ → ℕ → Type 0) (said : C → Out → List ℕ) (meaning : Meaning D) (wish : Wish) (session : Session C) (store : Store D) (latest : ℕ) : Type 0 where
-  pub sound : IsSession tags next_tag holds session
+    {C D : Type 0} (protocol : Protocol C) (meaning : Meaning D) (wish : Wish) (session : Session C) (store : Store D) (latest : ℕ) : Type 0 where
+  pub sound : IsSession protocol session
   pub entry : MayBeRecorded wish
   pub begun : ¬ IsFresh session
   pub core : C
   pub terms : Terms
   pub talk : Talk
-  pub stands : Stands hears refuses said core terms wish talk session
+  pub stands : Stands protocol core terms wish talk session
   pub in_time : All IsReading talk.readings
   pub order : now_of session ≤ latest
   pub opened : IsOpen meaning store
   pub ids : HaveIds (rules_in store)
-  pub link : IsLinkOf kind terms (rules_in store)
+  pub link : IsLinkOf protocol.kind terms (rules_in store)
   pub of : IsOf terms.link (held talk.steps) (is_up talk.steps) (state_in store)
 
 -- where a session stands whose wishes were done: it would listen, or is over
 pub record IsDone
-    {C D : Type 0} (tags : ℕ) (next_tag : Option ℕ → ℕ) (holds : ℕ → Type 0) (kind : LinkKind) (hears : List ℕ → Heard → Type 0)
-    (refuses : List ℕ → ℕ → ℕ → Type 0) (said : C → Out → List ℕ) (meaning : Meaning D) (end : Option EndCause) (session : Session C) (store : Store D) (latest : ℕ) : Type 0 where
+    {C D : Type 0} (protocol : Protocol C) (meaning : Meaning D) (end : Option EndCause) (session : Session C) (store : Store D) (latest : ℕ) : Type 0 where
   pub wish : Wish
   pub is : IsEnd wish end
-  pub wishes : Wishes tags next_tag holds kind hears refuses said meaning wish session store latest
+  pub wishes : Wishes protocol meaning wish session store latest
 
-module _ {C D : Type 0} (hears : List ℕ → Heard → Type 0) (refuses : List ℕ → ℕ → ℕ → Type 0) (said : C → Out → List ℕ) (meaning : Meaning D) (core : C) (terms : Terms) where
+module _ {C D : Type 0} (protocol : Protocol C) (meaning : Meaning D) (core : C) (terms : Terms) where
   -- where a talk is whose session wished nothing more: it would listen, or is over, and then the talk is that of a link that ended
   abbrev pub StandsAtEnd : Option EndCause → Talk → Session C → Type 0
-  StandsAtEnd None later session = Stands hears refuses said core terms wish_is.Listen later session
-  StandsAtEnd (Some cause) later session = LinkTalk hears refuses (said core) terms later.heard (spoken_in (said core) later) later.readings (deeds_in later.steps) cause
+  StandsAtEnd None later session = Stands protocol core terms wish_is.Listen later session
+  StandsAtEnd (Some cause) later session = LinkTalk protocol core terms later.heard (spoken_in (protocol.said core) later) later.readings (deeds_in later.steps) cause
 
   -- The wishes of a session were done: its talk went on, while nothing was heard.
   pub record CarriedOn (talk : Talk) (old new : Course) (told now_told : Option (List ℕ)) (store after : Store D) (end : Option EndCause) (session : Session C) : Type 0 where
     pub later : Talk
-    pub talks : TalksOn meaning (said core) terms.link talk later old new told now_told store after
+    pub talks : TalksOn meaning (protocol.said core) terms.link talk later old new told now_told store after
     pub unheard : later.heard ≡ talk.heard
     pub stands : StandsAtEnd end later session
 
   -- The same where something is wished: nothing was heard since, and where the session is over its talk is that of a link.
   pub record Carries (talk : Talk) (old new : Course) (told now_told : Option (List ℕ)) (store after : Store D) (wish : Wish) (session : Session C) : Type 0 where
     pub later : Talk
-    pub talks : TalksOn meaning (said core) terms.link talk later old new told now_told store after
+    pub talks : TalksOn meaning (protocol.said core) terms.link talk later old new told now_told store after
     pub unheard : later.heard ≡ talk.heard
-    pub stands : Stands hears refuses said core terms wish later session
+    pub stands : Stands protocol core terms wish later session
     pub ended : (cause : EndCause) → wish ≡ wish_is.Over cause
-        → LinkTalk hears refuses (said core) terms later.heard (spoken_in (said core) later) later.readings (deeds_in later.steps) cause
+        → LinkTalk protocol core terms later.heard (spoken_in (protocol.said core) later) later.readings (deeds_in later.steps) cause

@@ -128,10 +128,10 @@ impl<C: LinkCore> Session<C> {
         wait_ack: u32,
         keepalive: u32,
     ) -> Result<Session<C>, Memory>
-        requires tags { window + 2 ≤ C.tags }
+        requires tags { window + 2 ≤ C.protocol.tags }
         requires smsc { length smsc ≤ most_name }
         ensures new { IfOk result (spec.IsNew core (record { link = link; smsc = smsc; window = window; wait_ack = wait_ack; keepalive = keepalive })) }
-        ensures session { IfOk result (spec.IsSession C.tags C.next_tag C.holds) }
+        ensures session { IfOk result (spec.IsSession C.protocol) }
     {
         Ok(Session {
             alloc,
@@ -181,15 +181,15 @@ impl<C: LinkCore> Session<C> {
     /// By each thing that it is given it has less to do, but for what it hears, so it comes to listen or to its end. The end comes of what it was
     /// given, or is one that the session comes to by itself.
     pub fn next(&mut self, given: Given, now: u64) -> Wish
-        requires session { spec.IsSession C.tags C.next_tag C.holds self.old }
-        requires fits { spec.Fits C.kind self.old given now }
-        ensures session { spec.IsSession C.tags C.next_tag C.holds self.new }
-        ensures listens { spec.Listens C.hears C.most result self.new }
+        requires session { spec.IsSession C.protocol self.old }
+        requires fits { spec.Fits C.protocol.kind self.old given now }
+        ensures session { spec.IsSession C.protocol self.new }
+        ensures listens { spec.Listens C.protocol result self.new }
         ensures entry { spec.MayBeRecorded result }
         ensures latest { spec.now_of self.new ≡ now }
         ensures lighter { weight.GetsLighter self.old given self.new }
         ensures ends { weight.EndsBy self.old given result self.new }
-        ensures law { steps.Always (λ core terms talk. (wish : Wishes) → (cut : List ℕ) → steps.Stands C.hears C.refuses C.said core terms wish talk self.old → spec.MayBeCut wish given cut → steps.StandsOn C.hears C.refuses C.said core terms wish given now cut talk result self.new) }
+        ensures law { steps.Always (λ core terms talk. (wish : Wishes) → (cut : List ℕ) → steps.Stands C.protocol core terms wish talk self.old → spec.MayBeCut wish given cut → steps.StandsOn C.protocol core terms wish given now cut talk result self.new) }
     {
         self.latest = now;
         match given {

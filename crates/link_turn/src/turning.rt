@@ -33,12 +33,12 @@ pub fn turn_solo<C: LinkCore, D: Disk, P: Peer, K: Clock>(
     clock: &mut K,
     stop: bool,
 ) -> Turned
-    requires may { turn.MayTurn C.tags C.next_tag C.holds C.kind C.hears C.refuses C.said D.meaning session.old store.old (K.latest clock.old) }
-    ensures again { turn.MayTurnAgain C.tags C.next_tag C.holds C.kind C.hears C.refuses C.said D.meaning session.old result session.new store.new (K.latest clock.new) }
+    requires may { turn.MayTurn C.protocol D.meaning session.old store.old (K.latest clock.old) }
+    ensures again { turn.MayTurnAgain C.protocol D.meaning session.old result session.new store.new (K.latest clock.new) }
     ensures rules { rules_in store.new ≡ rules_in store.old }
     ensures counts { turn.CountsTurn (spec.IsFresh session.old) stop result (P.course peer.old).counts (P.course peer.new).counts }
-    ensures law { steps.Always (λ core terms talk. steps.Stands C.hears C.refuses C.said core terms Wish.Listen talk session.old
-        → turn.Turning D.meaning C.hears C.refuses C.said core terms talk (P.course peer.old) (P.course peer.new)
+    ensures law { steps.Always (λ core terms talk. steps.Stands C.protocol core terms Wish.Listen talk session.old
+        → turn.Turning D.meaning C.protocol core terms talk (P.course peer.old) (P.course peer.new)
         (K.readings clock.old) (K.readings clock.new) store.old store.new result session.new) }
 {
     let given = first(alloc, session.is_fresh(), peer, stop);
@@ -69,14 +69,14 @@ fn carry_out<C: LinkCore, D: Disk, P: Peer, K: Clock>(
     clock: &mut K,
     stop: bool,
 ) -> Option<EndCause>
-    requires wishes { doing.Wishes C.tags C.next_tag C.holds C.kind C.hears C.refuses C.said D.meaning first session.old store.old (K.latest clock.old) }
-    ensures done { doing.IsDone C.tags C.next_tag C.holds C.kind C.hears C.refuses C.said D.meaning result session.new store.new (K.latest clock.new) }
+    requires wishes { doing.Wishes C.protocol D.meaning first session.old store.old (K.latest clock.old) }
+    ensures done { doing.IsDone C.protocol D.meaning result session.new store.new (K.latest clock.new) }
     ensures terms { spec.terms_of session.new ≡ spec.terms_of session.old }
     ensures rules { rules_in store.new ≡ rules_in store.old }
     ensures stop { doing.IsToStop stop result }
     ensures counts { doing.CountsCause stop (weight.cause_in first session.old.phase) result (P.course peer.old).counts (P.course peer.new).counts }
-    ensures law { steps.Always (λ core terms talk. steps.Stands C.hears C.refuses C.said core terms first talk session.old
-        → doing.CarriedOn C.hears C.refuses C.said D.meaning core terms talk (P.course peer.old) (P.course peer.new)
+    ensures law { steps.Always (λ core terms talk. steps.Stands C.protocol core terms first talk session.old
+        → doing.CarriedOn C.protocol D.meaning core terms talk (P.course peer.old) (P.course peer.new)
         (K.readings clock.old) (K.readings clock.new) store.old store.new result session.new) }
 {
     let mut wish = first;

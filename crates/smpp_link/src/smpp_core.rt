@@ -10,6 +10,7 @@ ghost use Rattle.link_core.specs.Grammar.{IsReadAs};
 ghost use Rattle.smpp_link.specs.Hearing as hearing;
 ghost use Rattle.smpp_link.specs.Hearing.{Hears, Refuses};
 ghost use Rattle.smpp_link.specs.Saying as saying;
+ghost use Rattle.smpp_link.specs.Protocol.{SmppProtocol};
 ghost use Rattle.smpp_link.specs.Tags as numbers;
 
 use crate::hearing::heard_of;
@@ -130,21 +131,7 @@ fn tag_behind(last: Option<u32>) -> u32
 }
 
 impl LinkCore for SmppCore {
-    ghost kind = { kinds.Smpp };
-
-    ghost hears = { Hears };
-
-    ghost refuses = { Refuses };
-
-    ghost holds = { λ tag. tag < 2 ^ 32 };
-
-    ghost most = { 65536 };
-
-    ghost said = { saying.said };
-
-    ghost next_tag = { numbers.next_tag };
-
-    ghost tags = { numbers.last_tag };
+    ghost protocol = { SmppProtocol };
 
     fn read(&self, alloc: Global, octets: &[u8]) -> Result<Framed, Memory> {
         read_as(alloc, octets)

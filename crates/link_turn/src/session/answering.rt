@@ -33,12 +33,12 @@ fn end_by(refusal: Refusal) -> EndCause
 impl<C: LinkCore> Session<C> {
     // The store's answer to an entry.
     pub(super) fn answered(&mut self, outcome: Result<Reply, Refusal>) -> Wish
-        requires session { spec.IsSession C.tags C.next_tag C.holds self.old }
-        ensures wished { spec.IsWished C.tags C.next_tag C.holds C.hears C.most result self.new }
+        requires session { spec.IsSession C.protocol self.old }
+        ensures wished { spec.IsWished C.protocol result self.new }
         ensures latest { spec.now_of self.new ≡ spec.now_of self.old }
         ensures lighter { weight.weight self.new < weight.load self.old + 5 }
         ensures ends { weight.EndsItself result self.new }
-        ensures law { steps.Always (λ core terms talk. (kept : Recorded) → steps.WasRecorded C.hears C.refuses C.said core terms kept talk self.old → steps.StandsBehind C.hears C.refuses C.said core terms result (steps.with_step (step.records kept outcome) talk) self.new) }
+        ensures law { steps.Always (λ core terms talk. (kept : Recorded) → steps.WasRecorded C.protocol core terms kept talk self.old → steps.StandsBehind C.protocol core terms result (steps.with_step_at self.old.latest (step.records kept outcome) talk) self.new) }
     {
         match self.phase {
             Phase::Recording(Recording::End { message }) => self.ended(message, outcome),
@@ -50,12 +50,12 @@ impl<C: LinkCore> Session<C> {
 
     // To the end of a message.
     fn ended(&mut self, message: u64, outcome: Result<Reply, Refusal>) -> Wish
-        requires well { spec.IsWell C.tags C.next_tag self.old }
-        ensures wished { spec.IsWished C.tags C.next_tag C.holds C.hears C.most result self.new }
+        requires well { spec.IsWell C.protocol self.old }
+        ensures wished { spec.IsWished C.protocol result self.new }
         ensures latest { spec.now_of self.new ≡ spec.now_of self.old }
         ensures lighter { weight.weight self.new < weight.load self.old + 5 }
         ensures ends { weight.EndsItself result self.new }
-        ensures law { steps.Always (λ core terms talk. (kept : Recorded) → steps.Records C.hears C.refuses C.said core terms (Recording.End message) kept talk self.old → steps.StandsBehind C.hears C.refuses C.said core terms result (steps.with_step (step.records kept outcome) talk) self.new) }
+        ensures law { steps.Always (λ core terms talk. (kept : Recorded) → steps.Records C.protocol core terms (Recording.End message) kept talk self.old → steps.StandsBehind C.protocol core terms result (steps.with_step_at self.old.latest (step.records kept outcome) talk) self.new) }
     {
         match outcome {
             Ok(_) => self.look(),
@@ -65,13 +65,13 @@ impl<C: LinkCore> Session<C> {
 
     // To a report.
     fn noted(&mut self, tag: u32, outcome: Result<Reply, Refusal>) -> Wish
-        requires well { spec.IsWell C.tags C.next_tag self.old }
-        requires tag { C.holds tag }
-        ensures wished { spec.IsWished C.tags C.next_tag C.holds C.hears C.most result self.new }
+        requires well { spec.IsWell C.protocol self.old }
+        requires tag { C.protocol.holds tag }
+        ensures wished { spec.IsWished C.protocol result self.new }
         ensures latest { spec.now_of self.new ≡ spec.now_of self.old }
         ensures lighter { weight.weight self.new < weight.load self.old + 5 }
         ensures ends { weight.EndsItself result self.new }
-        ensures law { steps.Always (λ core terms talk. (kept : Recorded) → steps.Records C.hears C.refuses C.said core terms (Recording.Report tag) kept talk self.old → steps.StandsBehind C.hears C.refuses C.said core terms result (steps.with_step (step.records kept outcome) talk) self.new) }
+        ensures law { steps.Always (λ core terms talk. (kept : Recorded) → steps.Records C.protocol core terms (Recording.Report tag) kept talk self.old → steps.StandsBehind C.protocol core terms result (steps.with_step_at self.old.latest (step.records kept outcome) talk) self.new) }
     {
         match outcome {
             Ok(_) => self.answer(&Out::ReportReply { tag }),
@@ -81,13 +81,13 @@ impl<C: LinkCore> Session<C> {
 
     // To a message that came.
     fn kept(&mut self, tag: u32, outcome: Result<Reply, Refusal>) -> Wish
-        requires well { spec.IsWell C.tags C.next_tag self.old }
-        requires tag { C.holds tag }
-        ensures wished { spec.IsWished C.tags C.next_tag C.holds C.hears C.most result self.new }
+        requires well { spec.IsWell C.protocol self.old }
+        requires tag { C.protocol.holds tag }
+        ensures wished { spec.IsWished C.protocol result self.new }
         ensures latest { spec.now_of self.new ≡ spec.now_of self.old }
         ensures lighter { weight.weight self.new < weight.load self.old + 5 }
         ensures ends { weight.EndsItself result self.new }
-        ensures law { steps.Always (λ core terms talk. (kept : Recorded) → steps.Records C.hears C.refuses C.said core terms (Recording.Message tag) kept talk self.old → steps.StandsBehind C.hears C.refuses C.said core terms result (steps.with_step (step.records kept outcome) talk) self.new) }
+        ensures law { steps.Always (λ core terms talk. (kept : Recorded) → steps.Records C.protocol core terms (Recording.Message tag) kept talk self.old → steps.StandsBehind C.protocol core terms result (steps.with_step_at self.old.latest (step.records kept outcome) talk) self.new) }
     {
         match outcome {
             Ok(_) => self.answer(&Out::MessageReply { tag, good: true }),
@@ -97,13 +97,13 @@ impl<C: LinkCore> Session<C> {
 
     // To a message that came, which was refused.
     fn refused(&mut self, tag: u32, refusal: Refusal) -> Wish
-        requires well { spec.IsWell C.tags C.next_tag self.old }
-        requires tag { C.holds tag }
-        ensures wished { spec.IsWished C.tags C.next_tag C.holds C.hears C.most result self.new }
+        requires well { spec.IsWell C.protocol self.old }
+        requires tag { C.protocol.holds tag }
+        ensures wished { spec.IsWished C.protocol result self.new }
         ensures latest { spec.now_of self.new ≡ spec.now_of self.old }
         ensures lighter { weight.weight self.new < weight.load self.old + 5 }
         ensures ends { weight.EndsItself result self.new }
-        ensures law { steps.Always (λ core terms talk. (kept : Recorded) → steps.Records C.hears C.refuses C.said core terms (Recording.Message tag) kept talk self.old → steps.StandsBehind C.hears C.refuses C.said core terms result (steps.with_step (step.records kept (Err refusal)) talk) self.new) }
+        ensures law { steps.Always (λ core terms talk. (kept : Recorded) → steps.Records C.protocol core terms (Recording.Message tag) kept talk self.old → steps.StandsBehind C.protocol core terms result (steps.with_step_at self.old.latest (step.records kept (Err refusal)) talk) self.new) }
     {
         match refusal {
             Refusal::Full { .. } => self.answer(&Out::MessageReply { tag, good: false }),
@@ -115,12 +115,12 @@ impl<C: LinkCore> Session<C> {
 
     // What was to pass has passed.
     pub(super) fn passed(&mut self) -> Wish
-        requires well { spec.IsWell C.tags C.next_tag self.old }
-        ensures wished { spec.IsWished C.tags C.next_tag C.holds C.hears C.most result self.new }
+        requires well { spec.IsWell C.protocol self.old }
+        ensures wished { spec.IsWished C.protocol result self.new }
         ensures latest { spec.now_of self.new ≡ spec.now_of self.old }
         ensures lighter { weight.GetsLighterBehind self.old.phase (weight.weight self.old) (weight.weight self.new) }
         ensures ends { weight.EndsBehind self.old.phase result self.new }
-        ensures law { steps.Always (λ core terms talk. (brief : Passing) → steps.HasPassedIn C.hears C.refuses C.said core terms self.old.phase brief talk self.old → steps.StandsBehind C.hears C.refuses C.said core terms result (steps.with_step (steps.passed_step self.old.phase brief) talk) self.new) }
+        ensures law { steps.Always (λ core terms talk. (brief : Passing) → steps.HasPassedIn C.protocol core terms self.old.phase brief talk self.old → steps.StandsBehind C.protocol core terms result (steps.with_step_at self.old.latest (steps.passed_step self.old.phase brief) talk) self.new) }
     {
         match self.phase {
             Phase::Leaving { cause, held } => self.leave(cause, held),
@@ -134,15 +134,15 @@ impl<C: LinkCore> Session<C> {
 
     // The store's answer to the wish for a message.
     pub(super) fn taken(&mut self, outcome: Result<Option<Taken>, Refusal>) -> Wish
-        requires well { spec.IsWell C.tags C.next_tag self.old }
+        requires well { spec.IsWell C.protocol self.old }
         requires room { spec.HasRoom self.old }
         requires unsearched { self.old.searched ≡ false }
-        requires given { spec.MayBeGiven C.kind self.old.latest self.old.in_use.items outcome }
-        ensures wished { spec.IsWished C.tags C.next_tag C.holds C.hears C.most result self.new }
+        requires given { spec.MayBeGiven C.protocol.kind self.old.latest self.old.in_use.items outcome }
+        ensures wished { spec.IsWished C.protocol result self.new }
         ensures latest { spec.now_of self.new ≡ spec.now_of self.old }
         ensures lighter { weight.GetsLighterByTaken outcome (weight.load self.old + 2) (weight.weight self.new) }
         ensures ends { weight.EndsItself result self.new }
-        ensures law { steps.Always (λ core terms talk. (time : ℕ) → steps.WasTaken C.hears C.refuses C.said core terms time talk self.old → steps.StandsBehind C.hears C.refuses C.said core terms result (steps.with_step (step.takes time outcome) talk) self.new) }
+        ensures law { steps.Always (λ core terms talk. (time : ℕ) → steps.WasTaken C.protocol core terms time talk self.old → steps.StandsBehind C.protocol core terms result (steps.with_step_at self.old.latest (step.takes time outcome) talk) self.new) }
     {
         match outcome {
             Ok(taken) => self.found(taken),
@@ -152,15 +152,15 @@ impl<C: LinkCore> Session<C> {
 
     // The store answered with a message, or that it has none.
     fn found(&mut self, taken: Option<Taken>) -> Wish
-        requires well { spec.IsWell C.tags C.next_tag self.old }
+        requires well { spec.IsWell C.protocol self.old }
         requires room { spec.HasRoom self.old }
         requires unsearched { self.old.searched ≡ false }
-        requires given { spec.MayBeGiven C.kind self.old.latest self.old.in_use.items (Ok taken) }
-        ensures wished { spec.IsWished C.tags C.next_tag C.holds C.hears C.most result self.new }
+        requires given { spec.MayBeGiven C.protocol.kind self.old.latest self.old.in_use.items (Ok taken) }
+        ensures wished { spec.IsWished C.protocol result self.new }
         ensures latest { spec.now_of self.new ≡ spec.now_of self.old }
         ensures lighter { weight.GetsLighterByTaken (Ok taken) (weight.load self.old + 2) (weight.weight self.new) }
         ensures ends { weight.EndsItself result self.new }
-        ensures law { steps.Always (λ core terms talk. (time : ℕ) → steps.WasTaken C.hears C.refuses C.said core terms time talk self.old → steps.StandsBehind C.hears C.refuses C.said core terms result (steps.with_step (step.takes time (Ok taken)) talk) self.new) }
+        ensures law { steps.Always (λ core terms talk. (time : ℕ) → steps.WasTaken C.protocol core terms time talk self.old → steps.StandsBehind C.protocol core terms result (steps.with_step_at self.old.latest (step.takes time (Ok taken)) talk) self.new) }
     {
         match taken {
             Some(taken) => self.given(taken),
@@ -173,14 +173,14 @@ impl<C: LinkCore> Session<C> {
 
     // The store answered with a message.
     fn given(&mut self, taken: Taken) -> Wish
-        requires well { spec.IsWell C.tags C.next_tag self.old }
+        requires well { spec.IsWell C.protocol self.old }
         requires room { spec.HasRoom self.old }
-        requires given { spec.MayBeGiven C.kind self.old.latest self.old.in_use.items (Ok (Some taken)) }
-        ensures wished { spec.IsWished C.tags C.next_tag C.holds C.hears C.most result self.new }
+        requires given { spec.MayBeGiven C.protocol.kind self.old.latest self.old.in_use.items (Ok (Some taken)) }
+        ensures wished { spec.IsWished C.protocol result self.new }
         ensures latest { spec.now_of self.new ≡ spec.now_of self.old }
         ensures lighter { weight.weight self.new ≤ weight.load self.old + 4 }
         ensures ends { weight.EndsItself result self.new }
-        ensures law { steps.Always (λ core terms talk. (time : ℕ) → steps.WasTaken C.hears C.refuses C.said core terms time talk self.old → steps.StandsBehind C.hears C.refuses C.said core terms result (steps.with_step (step.takes time (Ok (Some taken))) talk) self.new) }
+        ensures law { steps.Always (λ core terms talk. (time : ℕ) → steps.WasTaken C.protocol core terms time talk self.old → steps.StandsBehind C.protocol core terms result (steps.with_step_at self.old.latest (step.takes time (Ok (Some taken))) talk) self.new) }
     {
         match taken {
             Taken::Send { message, sms } => self.submit(message, sms),
@@ -190,16 +190,20 @@ impl<C: LinkCore> Session<C> {
 
     // Says a message that was taken.
     fn submit(&mut self, message: u64, sms: Sms) -> Wish
-        requires well { spec.IsWell C.tags C.next_tag self.old }
+        requires well { spec.IsWell C.protocol self.old }
         requires room { spec.HasRoom self.old }
         requires fresh { ¬ IsAmong message (spec.messages self.old.in_use.items) }
-        requires submit { IsSubmit C.kind message sms self.old.latest }
-        ensures wished { spec.IsWished C.tags C.next_tag C.holds C.hears C.most result self.new }
+        requires submit { IsSubmit C.protocol.kind message sms self.old.latest }
+        ensures wished { spec.IsWished C.protocol result self.new }
         ensures latest { spec.now_of self.new ≡ spec.now_of self.old }
         ensures lighter { weight.weight self.new ≤ weight.load self.old + 4 }
         ensures ends { weight.EndsItself result self.new }
-        ensures law { steps.Always (λ core terms talk. (time : ℕ) → steps.WasTaken C.hears C.refuses C.said core terms time talk self.old → steps.StandsBehind C.hears C.refuses C.said core terms result (steps.with_step (step.takes time (Ok (Some (Taken.Send message sms)))) talk) self.new) }
+        ensures law { steps.Always (λ core terms talk. (time : ℕ) → steps.WasTaken C.protocol core terms time talk self.old → steps.StandsBehind C.protocol core terms result (steps.with_step_at self.old.latest (step.takes time (Ok (Some (Taken.Send message sms)))) talk) self.new) }
     {
+        // Room for its tag is taken before it goes out.
+        let Ok(()) = self.in_use.reserve(1) else {
+            return self.end(EndCause::Memory, Some(message));
+        };
         let tag = self.take_tag();
         let out = Out::Submit {
             tag,

@@ -24,12 +24,12 @@ fn message_in(phase: Phase) -> Option<u64>
 impl<C: LinkCore> Session<C> {
     // Ends for a cause. `held` is a message that it holds and that has no tag.
     pub(super) fn end(&mut self, cause: EndCause, held: Option<u64>) -> Wish
-        requires well { spec.IsWell C.tags C.next_tag self.old }
-        ensures wished { spec.IsWished C.tags C.next_tag C.holds C.hears C.most result self.new }
+        requires well { spec.IsWell C.protocol self.old }
+        ensures wished { spec.IsWished C.protocol result self.new }
         ensures latest { spec.now_of self.new ≡ spec.now_of self.old }
         ensures lighter { weight.weight self.new ≤ weight.weight_left held self.old }
         ensures ends { weight.EndsFor cause result self.new }
-        ensures law { steps.Always (λ core terms talk. steps.Ends C.hears C.refuses C.said core terms cause held talk self.old → steps.Stands C.hears C.refuses C.said core terms result talk self.new) }
+        ensures law { steps.Always (λ core terms talk. steps.Ends C.protocol core terms cause held talk self.old → steps.Stands C.protocol core terms result talk self.new) }
     {
         self.phase = Phase::Leaving { cause, held };
         self.leave(cause, held)
@@ -37,12 +37,12 @@ impl<C: LinkCore> Session<C> {
 
     // What was to be heard or said broke off.
     pub(super) fn broken(&mut self, cause: EndCause) -> Wish
-        requires well { spec.IsWell C.tags C.next_tag self.old }
-        ensures wished { spec.IsWished C.tags C.next_tag C.holds C.hears C.most result self.new }
+        requires well { spec.IsWell C.protocol self.old }
+        ensures wished { spec.IsWished C.protocol result self.new }
         ensures latest { spec.now_of self.new ≡ spec.now_of self.old }
         ensures lighter { weight.weight self.new ≤ weight.weight_left (steps.message_in self.old.phase) self.old }
         ensures ends { weight.EndsFor cause result self.new }
-        ensures law { steps.Always (λ core terms talk. steps.Ends C.hears C.refuses C.said core terms cause (steps.message_in self.old.phase) talk self.old → steps.Stands C.hears C.refuses C.said core terms result talk self.new) }
+        ensures law { steps.Always (λ core terms talk. steps.Ends C.protocol core terms cause (steps.message_in self.old.phase) talk self.old → steps.Stands C.protocol core terms result talk self.new) }
     {
         let held = message_in(self.phase);
         self.end(cause, held)
@@ -50,13 +50,13 @@ impl<C: LinkCore> Session<C> {
 
     // Gives back the next message that it holds, or goes down, or is over.
     pub(super) fn leave(&mut self, cause: EndCause, held: Option<u64>) -> Wish
-        requires well { spec.IsWell C.tags C.next_tag self.old }
+        requires well { spec.IsWell C.protocol self.old }
         requires phase { self.old.phase ≡ Phase.Leaving cause held }
-        ensures wished { spec.IsWished C.tags C.next_tag C.holds C.hears C.most result self.new }
+        ensures wished { spec.IsWished C.protocol result self.new }
         ensures latest { spec.now_of self.new ≡ spec.now_of self.old }
         ensures lighter { weight.weight self.new ≤ weight.weight_left held self.old }
         ensures ends { weight.EndsFor cause result self.new }
-        ensures law { steps.Always (λ core terms talk. steps.IsLeaving C.hears C.refuses C.said core terms cause held talk self.old → steps.Stands C.hears C.refuses C.said core terms result talk self.new) }
+        ensures law { steps.Always (λ core terms talk. steps.IsLeaving C.protocol core terms cause held talk self.old → steps.Stands C.protocol core terms result talk self.new) }
     {
         if let Some(message) = held {
             self.phase = Phase::Leaving { cause, held: None };

@@ -36,16 +36,16 @@ fn remove_tag(uses: &mut Vec<Submitted>, tag: u32)
 impl<C: LinkCore> Session<C> {
     // Deals with a frame. There is nothing to wish where it asks for nothing.
     pub(super) fn handle(&mut self, heard: Heard) -> Option<Wish>
-        requires well { spec.IsWell C.tags C.next_tag self.old }
-        requires heard { CanHear C.hears heard }
-        requires tag { C.holds (heard_tag heard) }
+        requires well { spec.IsWell C.protocol self.old }
+        requires heard { CanHear C.protocol.hears heard }
+        requires tag { C.protocol.holds (heard_tag heard) }
         requires sound { IsSound heard }
-        ensures wished { spec.IsWishedThen C.tags C.next_tag C.holds C.hears C.most result self.new }
+        ensures wished { spec.IsWishedThen C.protocol result self.new }
         ensures latest { spec.now_of self.new ≡ spec.now_of self.old }
         ensures lighter { weight.WeighsThen result self.old self.new }
         ensures ends { weight.EndsItselfThen result self.new }
         ensures kept { result ≡ None → self.new.kept ≡ self.old.kept }
-        ensures law { steps.Always (λ core terms talk. steps.Faces C.hears C.refuses C.said core terms (heard) talk self.old → steps.StandsThen C.hears C.refuses C.said core terms result (steps.with_step (step.hears (heard)) talk) self.new) }
+        ensures law { steps.Always (λ core terms talk. steps.Faces C.protocol core terms (heard) talk self.old → steps.StandsThen C.protocol core terms result (steps.with_step (step.hears (heard)) talk) self.new) }
     {
         match heard {
             Heard::Login { tag, code } => self.logged_in(tag, code),
@@ -67,27 +67,27 @@ impl<C: LinkCore> Session<C> {
 
     // Says an answer.
     pub(super) fn answer(&mut self, out: &Out) -> Wish
-        requires well { spec.IsWell C.tags C.next_tag self.old }
-        requires may { MaySay C.kind C.hears out.now }
-        requires tag { C.holds (out_tag out.now) }
-        ensures wished { spec.IsWished C.tags C.next_tag C.holds C.hears C.most result self.new }
+        requires well { spec.IsWell C.protocol self.old }
+        requires may { MaySay C.protocol.kind C.protocol.hears out.now }
+        requires tag { C.protocol.holds (out_tag out.now) }
+        ensures wished { spec.IsWished C.protocol result self.new }
         ensures latest { spec.now_of self.new ≡ spec.now_of self.old }
         ensures lighter { weight.weight self.new ≤ weight.load self.old + 3 }
         ensures ends { weight.EndsItself result self.new }
-        ensures law { steps.Always (λ core terms talk. steps.Owes C.hears C.refuses C.said core terms (due.say out.now) None talk self.old → steps.Frames C.hears C.refuses C.said core terms talk self.old → steps.IsAnswer out.now → steps.Stands C.hears C.refuses C.said core terms result talk self.new) }
+        ensures law { steps.Always (λ core terms talk. steps.Owes C.protocol core terms (due.say out.now) None talk self.old → steps.Frames C.protocol core terms talk self.old → steps.IsAnswer out.now → steps.Stands C.protocol core terms result talk self.new) }
     {
         self.say(out, Saying::Answer, None)
     }
 
     // The answer to a login.
     fn logged_in(&mut self, tag: u32, code: u32) -> Option<Wish>
-        requires well { spec.IsWell C.tags C.next_tag self.old }
-        ensures wished { spec.IsWishedThen C.tags C.next_tag C.holds C.hears C.most result self.new }
+        requires well { spec.IsWell C.protocol self.old }
+        ensures wished { spec.IsWishedThen C.protocol result self.new }
         ensures latest { spec.now_of self.new ≡ spec.now_of self.old }
         ensures lighter { weight.WeighsThen result self.old self.new }
         ensures ends { weight.EndsItselfThen result self.new }
         ensures kept { result ≡ None → self.new.kept ≡ self.old.kept }
-        ensures law { steps.Always (λ core terms talk. steps.Faces C.hears C.refuses C.said core terms (Heard.Login tag code) talk self.old → steps.StandsThen C.hears C.refuses C.said core terms result (steps.with_step (step.hears (Heard.Login tag code)) talk) self.new) }
+        ensures law { steps.Always (λ core terms talk. steps.Faces C.protocol core terms (Heard.Login tag code) talk self.old → steps.StandsThen C.protocol core terms result (steps.with_step (step.hears (Heard.Login tag code)) talk) self.new) }
     {
         match self.login {
             Some(asked) if asked.tag == tag => {
@@ -100,12 +100,12 @@ impl<C: LinkCore> Session<C> {
 
     // The login was answered with this code.
     fn come_up(&mut self, code: u32) -> Wish
-        requires well { spec.IsWell C.tags C.next_tag self.old }
-        ensures wished { spec.IsWished C.tags C.next_tag C.holds C.hears C.most result self.new }
+        requires well { spec.IsWell C.protocol self.old }
+        ensures wished { spec.IsWished C.protocol result self.new }
         ensures latest { spec.now_of self.new ≡ spec.now_of self.old }
         ensures lighter { weight.weight self.new ≤ weight.load self.old + 6 }
         ensures ends { weight.EndsItself result self.new }
-        ensures law { steps.Always (λ core terms talk. steps.Owes C.hears C.refuses C.said core terms (due.due_by_code code) None talk self.old → steps.Frames C.hears C.refuses C.said core terms talk self.old → steps.Stands C.hears C.refuses C.said core terms result talk self.new) }
+        ensures law { steps.Always (λ core terms talk. steps.Owes C.protocol core terms (due.due_by_code code) None talk self.old → steps.Frames C.protocol core terms talk self.old → steps.Stands C.protocol core terms result talk self.new) }
     {
         if code != 0 {
             return self.end(EndCause::LoginRefused { code }, None);
@@ -118,14 +118,14 @@ impl<C: LinkCore> Session<C> {
 
     // The answer to a message.
     fn replied(&mut self, tag: u32, verdict: Verdict) -> Option<Wish>
-        requires well { spec.IsWell C.tags C.next_tag self.old }
+        requires well { spec.IsWell C.protocol self.old }
         requires sound { IsSoundVerdict verdict }
-        ensures wished { spec.IsWishedThen C.tags C.next_tag C.holds C.hears C.most result self.new }
+        ensures wished { spec.IsWishedThen C.protocol result self.new }
         ensures latest { spec.now_of self.new ≡ spec.now_of self.old }
         ensures lighter { weight.WeighsThen result self.old self.new }
         ensures ends { weight.EndsItselfThen result self.new }
         ensures kept { result ≡ None → self.new.kept ≡ self.old.kept }
-        ensures law { steps.Always (λ core terms talk. steps.Faces C.hears C.refuses C.said core terms (Heard.Reply tag verdict) talk self.old → steps.StandsThen C.hears C.refuses C.said core terms result (steps.with_step (step.hears (Heard.Reply tag verdict)) talk) self.new) }
+        ensures law { steps.Always (λ core terms talk. steps.Faces C.protocol core terms (Heard.Reply tag verdict) talk self.old → steps.StandsThen C.protocol core terms result (steps.with_step (step.hears (Heard.Reply tag verdict)) talk) self.new) }
     {
         match self.take_answered(tag) {
             Some(message) => Some(self.judged(message, verdict)),
@@ -135,13 +135,13 @@ impl<C: LinkCore> Session<C> {
 
     // The centre answered so to a message.
     fn judged(&mut self, message: u64, verdict: Verdict) -> Wish
-        requires well { spec.IsWell C.tags C.next_tag self.old }
+        requires well { spec.IsWell C.protocol self.old }
         requires sound { IsSoundVerdict verdict }
-        ensures wished { spec.IsWished C.tags C.next_tag C.holds C.hears C.most result self.new }
+        ensures wished { spec.IsWished C.protocol result self.new }
         ensures latest { spec.now_of self.new ≡ spec.now_of self.old }
         ensures lighter { weight.weight self.new ≤ weight.load self.old + 7 }
         ensures ends { weight.EndsItself result self.new }
-        ensures law { steps.Always (λ core terms talk. steps.Owes C.hears C.refuses C.said core terms (due.due_by_verdict verdict message) (Some message) talk self.old → steps.Frames C.hears C.refuses C.said core terms talk self.old → steps.IsToRecord C.hears C.refuses C.said core terms (Recording.End message) talk.steps → steps.Stands C.hears C.refuses C.said core terms result talk self.new) }
+        ensures law { steps.Always (λ core terms talk. steps.Owes C.protocol core terms (due.due_by_verdict verdict message) (Some message) talk self.old → steps.IsHere C.protocol core terms talk self.old → steps.IsToRecord C.protocol core terms (Recording.End message) talk.steps → steps.Stands C.protocol core terms result talk self.new) }
     {
         match verdict {
             Verdict::Good { foreign } => self.acknowledge(message, foreign),
@@ -152,13 +152,13 @@ impl<C: LinkCore> Session<C> {
 
     // What has the tag wasn't understood.
     fn nacked(&mut self, tag: u32) -> Option<Wish>
-        requires well { spec.IsWell C.tags C.next_tag self.old }
-        ensures wished { spec.IsWishedThen C.tags C.next_tag C.holds C.hears C.most result self.new }
+        requires well { spec.IsWell C.protocol self.old }
+        ensures wished { spec.IsWishedThen C.protocol result self.new }
         ensures latest { spec.now_of self.new ≡ spec.now_of self.old }
         ensures lighter { weight.WeighsThen result self.old self.new }
         ensures ends { weight.EndsItselfThen result self.new }
         ensures kept { result ≡ None → self.new.kept ≡ self.old.kept }
-        ensures law { steps.Always (λ core terms talk. (code : ℕ) → steps.Faces C.hears C.refuses C.said core terms (Heard.Nack tag code) talk self.old → steps.StandsThen C.hears C.refuses C.said core terms result (steps.with_step (step.hears (Heard.Nack tag code)) talk) self.new) }
+        ensures law { steps.Always (λ core terms talk. (code : ℕ) → steps.Faces C.protocol core terms (Heard.Nack tag code) talk self.old → steps.StandsThen C.protocol core terms result (steps.with_step (step.hears (Heard.Nack tag code)) talk) self.new) }
     {
         match self.take_answered(tag) {
             Some(message) => Some(self.give_back(message)),
@@ -168,8 +168,8 @@ impl<C: LinkCore> Session<C> {
 
     // The message whose tag this is; the tag is no more in use.
     fn take_answered(&mut self, tag: u32) -> Option<u64>
-        requires well { spec.IsWell C.tags C.next_tag self.old }
-        ensures well { spec.IsWell C.tags C.next_tag self.new }
+        requires well { spec.IsWell C.protocol self.old }
+        ensures well { spec.IsWell C.protocol self.new }
         ensures found { result ≡ back.message_under tag self.old.in_use.items }
         ensures same { self.new ≡ record self.old { in_use = self.new.in_use } }
         ensures others { self.new.in_use.items ≡ back.without_tag tag self.old.in_use.items }
@@ -182,12 +182,12 @@ impl<C: LinkCore> Session<C> {
 
     // A message waits again.
     fn give_back(&mut self, message: u64) -> Wish
-        requires well { spec.IsWell C.tags C.next_tag self.old }
-        ensures wished { spec.IsWished C.tags C.next_tag C.holds C.hears C.most result self.new }
+        requires well { spec.IsWell C.protocol self.old }
+        ensures wished { spec.IsWished C.protocol result self.new }
         ensures latest { spec.now_of self.new ≡ spec.now_of self.old }
         ensures lighter { weight.weight self.new ≤ weight.load self.old + 7 }
         ensures ends { weight.EndsItself result self.new }
-        ensures law { steps.Always (λ core terms talk. steps.Owes C.hears C.refuses C.said core terms (due.give_back message) (Some message) talk self.old → steps.Frames C.hears C.refuses C.said core terms talk self.old → steps.Stands C.hears C.refuses C.said core terms result talk self.new) }
+        ensures law { steps.Always (λ core terms talk. steps.Owes C.protocol core terms (due.give_back message) (Some message) talk self.old → steps.Frames C.protocol core terms talk self.old → steps.Stands C.protocol core terms result talk self.new) }
     {
         self.phase = Phase::GivingBack { message };
         Wish::Pass(Passing::Returned { message })
@@ -195,13 +195,13 @@ impl<C: LinkCore> Session<C> {
 
     // Records that the centre took a message.
     fn acknowledge(&mut self, message: u64, foreign: Octets) -> Wish
-        requires well { spec.IsWell C.tags C.next_tag self.old }
+        requires well { spec.IsWell C.protocol self.old }
         requires short { IsShort foreign }
-        ensures wished { spec.IsWished C.tags C.next_tag C.holds C.hears C.most result self.new }
+        ensures wished { spec.IsWished C.protocol result self.new }
         ensures latest { spec.now_of self.new ≡ spec.now_of self.old }
         ensures lighter { weight.weight self.new ≤ weight.load self.old + 5 }
         ensures ends { weight.EndsItself result self.new }
-        ensures law { steps.Always (λ core terms talk. steps.Owes C.hears C.refuses C.said core terms (due.acknowledge message foreign) (Some message) talk self.old → steps.Frames C.hears C.refuses C.said core terms talk self.old → steps.IsToRecord C.hears C.refuses C.said core terms (Recording.End message) talk.steps → steps.Stands C.hears C.refuses C.said core terms result talk self.new) }
+        ensures law { steps.Always (λ core terms talk. steps.Owes C.protocol core terms (due.acknowledge message foreign) (Some message) talk self.old → steps.IsHere C.protocol core terms talk self.old → steps.IsToRecord C.protocol core terms (Recording.End message) talk.steps → steps.Stands C.protocol core terms result talk self.new) }
     {
         let Ok(smsc) = self.smsc() else {
             return self.end(EndCause::Memory, Some(message));
@@ -217,12 +217,12 @@ impl<C: LinkCore> Session<C> {
 
     // Records that the centre refused a message.
     fn reject(&mut self, message: u64, code: u32) -> Wish
-        requires well { spec.IsWell C.tags C.next_tag self.old }
-        ensures wished { spec.IsWished C.tags C.next_tag C.holds C.hears C.most result self.new }
+        requires well { spec.IsWell C.protocol self.old }
+        ensures wished { spec.IsWished C.protocol result self.new }
         ensures latest { spec.now_of self.new ≡ spec.now_of self.old }
         ensures lighter { weight.weight self.new ≤ weight.load self.old + 5 }
         ensures ends { weight.EndsItself result self.new }
-        ensures law { steps.Always (λ core terms talk. steps.Owes C.hears C.refuses C.said core terms (due.reject message code) (Some message) talk self.old → steps.Frames C.hears C.refuses C.said core terms talk self.old → steps.IsToRecord C.hears C.refuses C.said core terms (Recording.End message) talk.steps → steps.Stands C.hears C.refuses C.said core terms result talk self.new) }
+        ensures law { steps.Always (λ core terms talk. steps.Owes C.protocol core terms (due.reject message code) (Some message) talk self.old → steps.IsHere C.protocol core terms talk self.old → steps.IsToRecord C.protocol core terms (Recording.End message) talk.steps → steps.Stands C.protocol core terms result talk self.new) }
     {
         let Ok(smsc) = self.smsc() else {
             return self.end(EndCause::Memory, Some(message));
@@ -238,14 +238,14 @@ impl<C: LinkCore> Session<C> {
 
     // Records a report.
     fn reported(&mut self, tag: u32, foreign: Octets, kind: Kind, text: Octets) -> Wish
-        requires well { spec.IsWell C.tags C.next_tag self.old }
-        requires tag { C.holds tag }
+        requires well { spec.IsWell C.protocol self.old }
+        requires tag { C.protocol.holds tag }
         requires sound { IsSound (Heard.Report tag foreign kind text) }
-        ensures wished { spec.IsWished C.tags C.next_tag C.holds C.hears C.most result self.new }
+        ensures wished { spec.IsWished C.protocol result self.new }
         ensures latest { spec.now_of self.new ≡ spec.now_of self.old }
         ensures lighter { weight.weight self.new ≤ weight.load self.old + 5 }
         ensures ends { weight.EndsItself result self.new }
-        ensures law { steps.Always (λ core terms talk. steps.Owes C.hears C.refuses C.said core terms (due.report foreign kind text) None talk self.old → steps.Frames C.hears C.refuses C.said core terms talk self.old → steps.IsToRecord C.hears C.refuses C.said core terms (Recording.Report tag) talk.steps → steps.Stands C.hears C.refuses C.said core terms result talk self.new) }
+        ensures law { steps.Always (λ core terms talk. steps.Owes C.protocol core terms (due.report foreign kind text) None talk self.old → steps.IsHere C.protocol core terms talk self.old → steps.IsToRecord C.protocol core terms (Recording.Report tag) talk.steps → steps.Stands C.protocol core terms result talk self.new) }
     {
         let Ok(smsc) = self.smsc() else {
             return self.end(EndCause::Memory, None);
@@ -262,14 +262,14 @@ impl<C: LinkCore> Session<C> {
 
     // Records a message that came.
     fn arrived(&mut self, tag: u32, sms: Sms) -> Wish
-        requires well { spec.IsWell C.tags C.next_tag self.old }
-        requires tag { C.holds tag }
+        requires well { spec.IsWell C.protocol self.old }
+        requires tag { C.protocol.holds tag }
         requires sound { IsArrival sms }
-        ensures wished { spec.IsWished C.tags C.next_tag C.holds C.hears C.most result self.new }
+        ensures wished { spec.IsWished C.protocol result self.new }
         ensures latest { spec.now_of self.new ≡ spec.now_of self.old }
         ensures lighter { weight.weight self.new ≤ weight.load self.old + 5 }
         ensures ends { weight.EndsItself result self.new }
-        ensures law { steps.Always (λ core terms talk. steps.Owes C.hears C.refuses C.said core terms (due.arrive sms) None talk self.old → steps.Frames C.hears C.refuses C.said core terms talk self.old → steps.IsToRecord C.hears C.refuses C.said core terms (Recording.Message tag) talk.steps → steps.Stands C.hears C.refuses C.said core terms result talk self.new) }
+        ensures law { steps.Always (λ core terms talk. steps.Owes C.protocol core terms (due.arrive sms) None talk self.old → steps.IsHere C.protocol core terms talk self.old → steps.IsToRecord C.protocol core terms (Recording.Message tag) talk.steps → steps.Stands C.protocol core terms result talk self.new) }
     {
         let (Ok(smsc), Ok(own)) = (self.smsc(), self.smsc()) else {
             return self.end(EndCause::Memory, None);

@@ -4,6 +4,7 @@ ghost use Rattle.std.specs.Prelude.{◌≡◌, ◌↔◌, ◌≤◌, ◌+◌, �
 ghost use Rattle.exact_octets.specs.Fronts.{IsProperFront};
 ghost use Rattle.link_core.specs.Grammar.{IsFrame, IsGrammar};
 ghost use Rattle.link_turn.specs.SessionSteps as steps;
+ghost use Rattle.link_turn.specs.Steps as step;
 ghost use Rattle.link_turn.specs.Session as spec;
 ghost use Rattle.link_turn.specs.Weight as weight;
 
@@ -26,11 +27,11 @@ fn late_message(uses: &[Submitted], now: u64, wait_ack: u32) -> Option<Asked>
 impl<C: LinkCore> Session<C> {
     // Octets came.
     pub(super) fn hear(&mut self, octets: &[u8]) -> Wish
-        requires well { spec.IsWell C.tags C.next_tag self.old }
-        ensures wished { spec.IsWished C.tags C.next_tag C.holds C.hears C.most result self.new }
+        requires well { spec.IsWell C.protocol self.old }
+        ensures wished { spec.IsWished C.protocol result self.new }
         ensures latest { spec.now_of self.new ≡ spec.now_of self.old }
         ensures ends { weight.EndsItself result self.new }
-        ensures law { steps.Always (λ core terms talk. steps.Heeds C.hears C.refuses C.said core terms octets.now talk self.old → steps.StandsBehind C.hears C.refuses C.said core terms result (talk) self.new) }
+        ensures law { steps.Always (λ core terms talk. steps.Heeds C.protocol core terms octets.now talk self.old → steps.StandsBehind C.protocol core terms result (steps.with_octets octets.now (steps.with_step_at self.old.latest step.listens talk)) self.new) }
     {
         self.searched = false;
         match self.kept.extend_from_slice(octets) {
@@ -41,11 +42,11 @@ impl<C: LinkCore> Session<C> {
 
     // Nothing came in time.
     pub(super) fn quiet(&mut self) -> Wish
-        requires well { spec.IsWell C.tags C.next_tag self.old }
-        ensures wished { spec.IsWished C.tags C.next_tag C.holds C.hears C.most result self.new }
+        requires well { spec.IsWell C.protocol self.old }
+        ensures wished { spec.IsWished C.protocol result self.new }
         ensures latest { spec.now_of self.new ≡ spec.now_of self.old }
         ensures ends { weight.EndsItself result self.new }
-        ensures law { steps.Always (λ core terms talk. steps.IsReady C.hears C.refuses C.said core terms talk self.old → steps.Frames C.hears C.refuses C.said core terms talk self.old → steps.StandsBehind C.hears C.refuses C.said core terms result (talk) self.new) }
+        ensures law { steps.Always (λ core terms talk. steps.IsReady C.protocol core terms talk self.old → steps.Frames C.protocol core terms talk self.old → steps.StandsBehind C.protocol core terms result (steps.with_step_at self.old.latest step.listens talk) self.new) }
     {
         self.searched = false;
         self.look()
@@ -53,13 +54,13 @@ impl<C: LinkCore> Session<C> {
 
     // Deals with the frames that it keeps, up to the first one that asks for something.
     pub(super) fn look(&mut self) -> Wish
-        requires well { spec.IsWell C.tags C.next_tag self.old }
-        ensures wished { spec.IsWished C.tags C.next_tag C.holds C.hears C.most result self.new }
+        requires well { spec.IsWell C.protocol self.old }
+        ensures wished { spec.IsWished C.protocol result self.new }
         ensures latest { spec.now_of self.new ≡ spec.now_of self.old }
         ensures lighter { weight.weight self.new ≤ weight.load self.old + 3 }
         ensures spoke { self.old.last_said ≡ self.old.latest → weight.weight self.new ≤ weight.load self.old + 2 }
         ensures ends { weight.EndsItself result self.new }
-        ensures law { steps.Always (λ core terms talk. steps.IsReady C.hears C.refuses C.said core terms talk self.old → steps.Frames C.hears C.refuses C.said core terms talk self.old → steps.StandsBehind C.hears C.refuses C.said core terms result (talk) self.new) }
+        ensures law { steps.Always (λ core terms talk. steps.IsReady C.protocol core terms talk self.old → steps.IsHere C.protocol core terms talk self.old → steps.StandsBehind C.protocol core terms result (talk) self.new) }
     {
         loop {
             match self.core.read(self.alloc, self.kept.as_slice()) {
@@ -92,15 +93,15 @@ impl<C: LinkCore> Session<C> {
 
     // Nothing is left to deal with: asks for what is due by the clock, or for a message, or listens.
     fn idle(&mut self) -> Wish
-        requires well { spec.IsWell C.tags C.next_tag self.old }
-        requires front { IsProperFront (IsFrame C.hears) self.old.kept }
-        requires grammar { IsGrammar C.hears C.holds C.most }
-        ensures wished { spec.IsWished C.tags C.next_tag C.holds C.hears C.most result self.new }
+        requires well { spec.IsWell C.protocol self.old }
+        requires front { IsProperFront (IsFrame C.protocol.hears) self.old.kept }
+        requires grammar { IsGrammar C.protocol.hears C.protocol.holds C.protocol.most }
+        ensures wished { spec.IsWished C.protocol result self.new }
         ensures latest { spec.now_of self.new ≡ spec.now_of self.old }
         ensures lighter { weight.weight self.new ≤ weight.load self.old + 3 }
         ensures spoke { self.old.last_said ≡ self.old.latest → weight.weight self.new ≤ weight.load self.old + 2 }
         ensures ends { weight.EndsItself result self.new }
-        ensures law { steps.Always (λ core terms talk. steps.IsReady C.hears C.refuses C.said core terms talk self.old → steps.Frames C.hears C.refuses C.said core terms talk self.old → steps.Stands C.hears C.refuses C.said core terms result talk self.new) }
+        ensures law { steps.Always (λ core terms talk. steps.IsReady C.protocol core terms talk self.old → steps.IsHere C.protocol core terms talk self.old → steps.Stands C.protocol core terms result talk self.new) }
     {
         match self.overdue() {
             Some(asked) => {
@@ -117,15 +118,15 @@ impl<C: LinkCore> Session<C> {
 
     // Nothing waits too long: asks what is due by the clock, or for a message, or listens.
     fn carry_on(&mut self) -> Wish
-        requires well { spec.IsWell C.tags C.next_tag self.old }
-        requires front { IsProperFront (IsFrame C.hears) self.old.kept }
-        requires grammar { IsGrammar C.hears C.holds C.most }
-        ensures wished { spec.IsWished C.tags C.next_tag C.holds C.hears C.most result self.new }
+        requires well { spec.IsWell C.protocol self.old }
+        requires front { IsProperFront (IsFrame C.protocol.hears) self.old.kept }
+        requires grammar { IsGrammar C.protocol.hears C.protocol.holds C.protocol.most }
+        ensures wished { spec.IsWished C.protocol result self.new }
         ensures latest { spec.now_of self.new ≡ spec.now_of self.old }
         ensures lighter { weight.weight self.new ≤ weight.load self.old + 3 }
         ensures spoke { self.old.last_said ≡ self.old.latest → weight.weight self.new ≤ weight.load self.old + 2 }
         ensures ends { weight.EndsItself result self.new }
-        ensures law { steps.Always (λ core terms talk. steps.IsReady C.hears C.refuses C.said core terms talk self.old → steps.Frames C.hears C.refuses C.said core terms talk self.old → spec.NoneIsLate self.old → steps.Stands C.hears C.refuses C.said core terms result talk self.new) }
+        ensures law { steps.Always (λ core terms talk. steps.IsReady C.protocol core terms talk self.old → steps.IsHere C.protocol core terms talk self.old → spec.NoneIsLate self.old → steps.Stands C.protocol core terms result talk self.new) }
     {
         if self.is_silent() {
             return self.ask();

@@ -3,12 +3,13 @@
 ghost use Rattle.std.specs.List.{list_any};
 ghost use Rattle.link_core.specs.Saying.{MaySay, out_tag};
 ghost use Rattle.link_turn.specs.Back.{IsFree, has_tag};
+ghost use Rattle.link_turn.specs.Talk.{IsNextFree};
 ghost use Rattle.link_turn.specs.SessionSteps as steps;
 ghost use Rattle.link_turn.specs.Steps as step;
 ghost use Rattle.sms_record.specs.declared.sms.Sms.{Sms};
 ghost use Rattle.link_core.specs.declared.out.Out.{Out as Outs};
 ghost use Rattle.link_turn.specs.declared.session.Saying.{Saying as Sayings};
-ghost use Rattle.std.specs.Prelude.{◌≡◌, ◌↔◌, ◌≤◌, ◌<◌, ◌+◌, ℕ, IsTrue};
+ghost use Rattle.std.specs.Prelude.{◌≡◌, ◌↔◌, ◌≤◌, ◌<◌, ◌+◌, ℕ, Some, IsTrue};
 ghost use Rattle.link_turn.specs.Session as spec;
 ghost use Rattle.link_turn.specs.Weight as weight;
 
@@ -21,11 +22,11 @@ use link_core::{LinkCore, Out};
 impl<C: LinkCore> Session<C> {
     // Says the login.
     pub(super) fn begin(&mut self) -> Wish
-        requires well { spec.IsWell C.tags C.next_tag self.old }
-        ensures wished { spec.IsWished C.tags C.next_tag C.holds C.hears C.most result self.new }
+        requires well { spec.IsWell C.protocol self.old }
+        ensures wished { spec.IsWished C.protocol result self.new }
         ensures latest { spec.now_of self.new ≡ spec.now_of self.old }
         ensures ends { weight.EndsItself result self.new }
-        ensures law { steps.Always (λ core terms talk. steps.Begins C.hears C.refuses C.said core terms talk self.old → steps.Stands C.hears C.refuses C.said core terms result talk self.new) }
+        ensures law { steps.Always (λ core terms talk. steps.Begins C.protocol core terms talk self.old → steps.Stands C.protocol core terms result talk self.new) }
     {
         let tag = self.take_tag();
         self.say(&Out::Login { tag }, Saying::Login { tag }, None)
@@ -33,12 +34,12 @@ impl<C: LinkCore> Session<C> {
 
     // Asks whether the centre is there.
     pub(super) fn ask(&mut self) -> Wish
-        requires well { spec.IsWell C.tags C.next_tag self.old }
-        ensures wished { spec.IsWished C.tags C.next_tag C.holds C.hears C.most result self.new }
+        requires well { spec.IsWell C.protocol self.old }
+        ensures wished { spec.IsWished C.protocol result self.new }
         ensures latest { spec.now_of self.new ≡ spec.now_of self.old }
         ensures lighter { weight.weight self.new ≤ weight.load self.old + 3 }
         ensures ends { weight.EndsItself result self.new }
-        ensures law { steps.Always (λ core terms talk. steps.IsReady C.hears C.refuses C.said core terms talk self.old → steps.Frames C.hears C.refuses C.said core terms talk self.old → steps.WasSilent C.hears C.refuses C.said core terms self.old → steps.Stands C.hears C.refuses C.said core terms result talk self.new) }
+        ensures law { steps.Always (λ core terms talk. steps.IsReady C.protocol core terms talk self.old → steps.Frames C.protocol core terms talk self.old → steps.WasSilent C.protocol core terms self.old → steps.Stands C.protocol core terms result talk self.new) }
     {
         let tag = self.take_tag();
         self.say(&Out::Keep { tag }, Saying::Keep, None)
@@ -46,16 +47,16 @@ impl<C: LinkCore> Session<C> {
 
     // Says something; `held` is the message that it is.
     pub(super) fn say(&mut self, out: &Out, saying: Saying, held: Option<u64>) -> Wish
-        requires well { spec.IsWell C.tags C.next_tag self.old }
-        requires may { MaySay C.kind C.hears out.now }
-        requires tag { C.holds (out_tag out.now) }
-        requires room { spec.IsPhase C.holds (Phase.Saying saying) self.old }
+        requires well { spec.IsWell C.protocol self.old }
+        requires may { MaySay C.protocol.kind C.protocol.hears out.now }
+        requires tag { C.protocol.holds (out_tag out.now) }
+        requires room { spec.IsPhase C.protocol.holds (Phase.Saying saying) self.old }
         requires held { held ≡ steps.message_said saying }
-        ensures wished { spec.IsWished C.tags C.next_tag C.holds C.hears C.most result self.new }
+        ensures wished { spec.IsWished C.protocol result self.new }
         ensures latest { spec.now_of self.new ≡ spec.now_of self.old }
         ensures lighter { weight.weight self.new ≤ weight.load self.old + weight.weight_saying saying }
         ensures ends { weight.EndsItself result self.new }
-        ensures law { steps.Always (λ core terms talk. steps.Speaks C.hears C.refuses C.said core terms saying out.now talk self.old → steps.Stands C.hears C.refuses C.said core terms result talk self.new) }
+        ensures law { steps.Always (λ core terms talk. steps.Speaks C.protocol core terms saying out.now talk self.old → steps.Stands C.protocol core terms result talk self.new) }
     {
         match self.core.write(self.alloc, out) {
             Ok(octets) => {
@@ -68,12 +69,12 @@ impl<C: LinkCore> Session<C> {
 
     // What was to be said was said whole.
     pub(super) fn said(&mut self) -> Wish
-        requires session { spec.IsSession C.tags C.next_tag C.holds self.old }
-        ensures wished { spec.IsWished C.tags C.next_tag C.holds C.hears C.most result self.new }
+        requires session { spec.IsSession C.protocol self.old }
+        ensures wished { spec.IsWished C.protocol result self.new }
         ensures latest { spec.now_of self.new ≡ spec.now_of self.old }
         ensures lighter { (saying : Sayings) → self.old.phase ≡ Phase.Saying saying → weight.weight self.new < weight.load self.old + weight.weight_saying saying }
         ensures ends { weight.EndsItself result self.new }
-        ensures law { steps.Always (λ core terms talk. (saying : Sayings) → (out : Outs) → self.old.phase ≡ Phase.Saying saying → steps.WasSaid C.hears C.refuses C.said core terms saying out talk self.old → steps.StandsBehind C.hears C.refuses C.said core terms result (steps.with_step (step.says out self.old.latest) talk) self.new) }
+        ensures law { steps.Always (λ core terms talk. (saying : Sayings) → (out : Outs) → self.old.phase ≡ Phase.Saying saying → steps.WasSaid C.protocol core terms saying out talk self.old → steps.StandsBehind C.protocol core terms result (steps.with_step_at self.old.latest (step.says out self.old.latest) talk) self.new) }
     {
         match self.phase {
             Phase::Saying(saying) => self.said_so(saying),
@@ -83,13 +84,13 @@ impl<C: LinkCore> Session<C> {
 
     // This was said whole.
     fn said_so(&mut self, saying: Saying) -> Wish
-        requires well { spec.IsWell C.tags C.next_tag self.old }
-        requires room { spec.IsPhase C.holds (Phase.Saying saying) self.old }
-        ensures wished { spec.IsWished C.tags C.next_tag C.holds C.hears C.most result self.new }
+        requires well { spec.IsWell C.protocol self.old }
+        requires room { spec.IsPhase C.protocol.holds (Phase.Saying saying) self.old }
+        ensures wished { spec.IsWished C.protocol result self.new }
         ensures latest { spec.now_of self.new ≡ spec.now_of self.old }
         ensures lighter { weight.weight self.new < weight.load self.old + weight.weight_saying saying }
         ensures ends { weight.EndsItself result self.new }
-        ensures law { steps.Always (λ core terms talk. (out : Outs) → steps.WasSaid C.hears C.refuses C.said core terms saying out talk self.old → steps.StandsBehind C.hears C.refuses C.said core terms result (steps.with_step (step.says out self.old.latest) talk) self.new) }
+        ensures law { steps.Always (λ core terms talk. (out : Outs) → steps.WasSaid C.protocol core terms saying out talk self.old → steps.StandsBehind C.protocol core terms result (steps.with_step_at self.old.latest (step.says out self.old.latest) talk) self.new) }
     {
         self.last_said = self.latest;
         match saying {
@@ -103,13 +104,13 @@ impl<C: LinkCore> Session<C> {
 
     // The login was said whole.
     fn asked(&mut self, tag: u32) -> Wish
-        requires well { spec.IsWell C.tags C.next_tag self.old }
+        requires well { spec.IsWell C.protocol self.old }
         requires spoke { self.old.last_said ≡ self.old.latest }
-        ensures wished { spec.IsWished C.tags C.next_tag C.holds C.hears C.most result self.new }
+        ensures wished { spec.IsWished C.protocol result self.new }
         ensures latest { spec.now_of self.new ≡ spec.now_of self.old }
         ensures lighter { weight.weight self.new ≤ weight.load self.old + 2 }
         ensures ends { weight.EndsItself result self.new }
-        ensures law { steps.Always (λ core terms talk. steps.IsReady C.hears C.refuses C.said core terms talk (record self.old { login = Some (record { tag = tag; said = self.old.latest }) }) → steps.Frames C.hears C.refuses C.said core terms talk self.old → steps.StandsBehind C.hears C.refuses C.said core terms result talk self.new) }
+        ensures law { steps.Always (λ core terms talk. steps.IsReady C.protocol core terms talk (record self.old { login = Some (record { tag = tag; said = self.old.latest }) }) → steps.IsHere C.protocol core terms talk self.old → steps.StandsBehind C.protocol core terms result talk self.new) }
     {
         self.login = Some(Asked {
             tag,
@@ -120,32 +121,31 @@ impl<C: LinkCore> Session<C> {
 
     // A message was said whole.
     fn submitted(&mut self, tag: u32, message: u64) -> Wish
-        requires well { spec.IsWell C.tags C.next_tag self.old }
-        requires room { spec.HasRoom self.old }
+        requires well { spec.IsWell C.protocol self.old }
+        requires room { spec.MayNote self.old }
         requires spoke { self.old.last_said ≡ self.old.latest }
-        ensures wished { spec.IsWished C.tags C.next_tag C.holds C.hears C.most result self.new }
+        ensures wished { spec.IsWished C.protocol result self.new }
         ensures latest { spec.now_of self.new ≡ spec.now_of self.old }
         ensures lighter { weight.weight self.new ≤ weight.load self.old + 3 }
         ensures ends { weight.EndsItself result self.new }
-        ensures law { steps.Always (λ core terms talk. (sms : Sms) → (time : ℕ) → steps.WasSubmitted C.hears C.refuses C.said core terms tag message sms time talk self.old → steps.StandsBehind C.hears C.refuses C.said core terms result (steps.with_step (step.says (Out.Submit tag message sms time) self.old.latest) talk) self.new) }
+        ensures law { steps.Always (λ core terms talk. (sms : Sms) → (time : ℕ) → steps.WasSubmitted C.protocol core terms tag message sms time talk self.old → steps.StandsBehind C.protocol core terms result (steps.with_step_at self.old.latest (step.says (Out.Submit tag message sms time) self.old.latest) talk) self.new) }
     {
         let asked = Asked {
             tag,
             said: self.latest,
         };
-        match self.in_use.push(Submitted { message, asked }) {
-            Ok(()) => self.look(),
-            Err(_) => self.end(EndCause::Memory, Some(message)),
-        }
+        self.in_use.push_reserved(Submitted { message, asked });
+        self.look()
     }
 
     // The next tag that isn't in use.
     pub(super) fn take_tag(&mut self) -> u32
-        requires well { spec.IsWell C.tags C.next_tag self.old }
+        requires well { spec.IsWell C.protocol self.old }
         ensures same { self.new ≡ record self.old { last_tag = self.new.last_tag } }
-        ensures well { spec.IsWell C.tags C.next_tag self.new }
-        ensures holds { C.holds result }
-        ensures free { IsFree result self.new.in_use.items }
+        ensures well { spec.IsWell C.protocol self.new }
+        ensures holds { C.protocol.holds result }
+        ensures last { self.new.last_tag ≡ Some result }
+        ensures free { IsNextFree C.protocol.next_tag self.old.last_tag self.new.in_use.items result }
     {
         for tried in 0..self.in_use.len() {
             let tag = self.core.next_tag(self.last_tag);

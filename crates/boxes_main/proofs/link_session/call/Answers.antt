@@ -14,5 +14,5 @@ returns-in-Peer g c =
     subst (λ d. Dials g.L.P.Meter.course c.args.centre.now.host c.args.centre.now.port d (dealings c.args.dialer.now) (dealings c.dial.new.self)) c.in-Peer.is
     (subst (λ host. Dials g.L.P.Meter.course host c.args.centre.now.port c.dial.result (dealings c.args.dialer.now) (dealings c.dial.new.self)) c.as_slice.ensures c.dial.ensures) in
     λ co terms new.
-    calls_held core.hears core.refuses core.said disk.meaning co terms c.args.centre.now (readings c.args.clock.now) c.args.store.now
+    calls_held core.protocol disk.meaning co terms c.args.centre.now (readings c.args.clock.now) c.args.store.now
     (dealings c.args.dialer.now) (dealings c.hold.new.dialer) (readings c.hold.new.clock) c.hold.new.store (dealings c.dial.new.self) c.hold.result asked.keeps (c.hold.ensures co terms new)

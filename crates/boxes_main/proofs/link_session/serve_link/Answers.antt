@@ -1,3 +1,4 @@
+use Rattle.smpp_link.specs.Protocol.{SmppProtocol}
 use Rattle.std.proofs.Common.{◌≡◌, ◌<◌, ◌^◌, sym, subst, map}
 use Rattle.link_turn.specs.Turn.{MayTurn}
 use Rattle.route_rules.specs.declared.link_kind.LinkKind.TheVariants.{Smpp}
@@ -14,7 +15,7 @@ use Rattle.boxes_main.proofs.link_session.serve_link.Goals as goal
 pub call-held-requires : goal.call-held-requires
 call-held-requires g c =
     record {
-      may = subst (λ n. MayTurn last_tag next_tag (λ tag. tag < 2 ^ 32) Smpp Hears Refuses smpp.said g.H.D.Disk.meaning c.args.session c.args.store n)
+      may = subst (λ n. MayTurn SmppProtocol g.H.D.Disk.meaning c.args.session c.args.store n)
           (sym c.clock-clock.ensures.clock.no_latest) c.requires.may;
     }
 

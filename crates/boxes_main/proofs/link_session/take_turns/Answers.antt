@@ -24,9 +24,9 @@ loop-heard-preserved g c =
       begun = c.in-On.ensures.again.1;
       on = λ co terms first told began on.
           let was = i.on co terms first told began on in
-          subst (λ (p : Progress). IsOn core.hears core.refuses core.said disk.meaning co terms first told began c.turn_solo.new.session
+          subst (λ (p : Progress). IsOn core.protocol disk.meaning co terms first told began c.turn_solo.new.session
           (course c.turn_solo.new.peer) (readings c.turn_solo.new.clock) c.turn_solo.new.store p) (sym c.behind-progress.ensures)
-          (goes_on core.hears core.refuses core.said co terms disk.meaning first (course c.loop-heard.peer) (course c.turn_solo.new.peer)
+          (goes_on core.protocol co terms disk.meaning first (course c.loop-heard.peer) (course c.turn_solo.new.peer)
           told (readings c.loop-heard.clock) (readings c.turn_solo.new.clock) began c.loop-heard.store c.turn_solo.new.store c.loop-heard.session c.turn_solo.new.session c.loop-heard.progress
           was c.in-On.ensures.rules c.in-On.heard c.is_some.result free.1 i.begun counts (c.in-On.ensures.law co terms was.later was.stands));
     }
@@ -45,9 +45,9 @@ returns-in-Ended g c =
     let i = c.loop-heard.invariant in
     λ co terms first told began on.
     let was = i.on co terms first told began on in
-    subst (λ cause. Talked core.hears core.refuses core.said disk.meaning co terms first (course c.turn_solo.new.peer) told (readings c.turn_solo.new.clock)
+    subst (λ cause. Talked core.protocol disk.meaning co terms first (course c.turn_solo.new.peer) told (readings c.turn_solo.new.clock)
     began c.turn_solo.new.store cause) (sym c.end_of.ensures)
-    (ends_so core.hears core.refuses core.said co terms disk.meaning first (course c.loop-heard.peer) (course c.turn_solo.new.peer)
+    (ends_so core.protocol co terms disk.meaning first (course c.loop-heard.peer) (course c.turn_solo.new.peer)
     told (readings c.loop-heard.clock) (readings c.turn_solo.new.clock) began c.loop-heard.store c.turn_solo.new.store c.loop-heard.session c.turn_solo.new.session c.loop-heard.progress
     was c.in-Ended.ensures.rules c.limit-limit.result c.in-Ended.cause c.limit-limit.ensures c.in-Ended.ensures.again.0 c.in-Ended.ensures.again.1
     (subst (λ stop. CountsTurn (IsFresh c.loop-heard.session) stop (Ended c.in-Ended.cause) (course c.loop-heard.peer).counts (course c.turn_solo.new.peer).counts) c.is_some.ensures c.in-Ended.ensures.counts)

@@ -8,9 +8,9 @@ abbrev pub invariant-loop-heard : goal.invariant-loop-heard
 invariant-loop-heard g l =
     let course = g.P.Meter.course in
     let readings = g.K.Clock.readings in record {
-      may : MayTurn g.C.LinkCore.tags g.C.LinkCore.next_tag g.C.LinkCore.holds g.C.LinkCore.kind g.C.LinkCore.hears g.C.LinkCore.refuses g.C.LinkCore.said g.D.Disk.meaning l.session l.store (g.K.Clock.latest l.clock);
+      may : MayTurn g.C.LinkCore.protocol g.D.Disk.meaning l.session l.store (g.K.Clock.latest l.clock);
       begun : ¬ IsFresh l.session;
-      on : KeepsOn g.C.LinkCore.hears g.C.LinkCore.refuses g.C.LinkCore.said g.D.Disk.meaning
+      on : KeepsOn g.C.LinkCore.protocol g.D.Disk.meaning
           l.initial.session (course l.initial.peer) (readings l.initial.clock) l.initial.store l.initial.progress
           l.session (course l.peer) (readings l.clock) l.store l.progress;
     }

@@ -15,9 +15,9 @@ returns-in-On g c =
     let first = course c.args.peer.now in
     let told = readings c.args.clock.now in
     let began = c.args.store.now in
-    let was = begins_on core.hears core.refuses core.said co terms disk.meaning first told began c.args.session.now new c.requires.peer in
+    let was = begins_on core.protocol co terms disk.meaning first told began c.args.session.now new c.requires.peer in
     c.take_turns.ensures co terms first told began
-    (goes_first core.hears core.refuses core.said co terms disk.meaning first first (course c.turn_solo.new.peer)
+    (goes_first core.protocol co terms disk.meaning first first (course c.turn_solo.new.peer)
     told told (readings c.turn_solo.new.clock) began began c.turn_solo.new.store c.args.session.now c.turn_solo.new.session zero
     was c.in-On.ensures.rules c.in-On.heard false c.in-On.ensures.counts (c.in-On.ensures.law co terms was.later was.stands))
 
@@ -32,8 +32,8 @@ returns-in-Ended g c =
     let first = course c.args.peer.now in
     let told = readings c.args.clock.now in
     let began = c.args.store.now in
-    let was = begins_on core.hears core.refuses core.said co terms disk.meaning first told began c.args.session.now new c.requires.peer in
-    ends_so core.hears core.refuses core.said co terms disk.meaning first first (course c.turn_solo.new.peer)
+    let was = begins_on core.protocol co terms disk.meaning first told began c.args.session.now new c.requires.peer in
+    ends_so core.protocol co terms disk.meaning first first (course c.turn_solo.new.peer)
     told told (readings c.turn_solo.new.clock) began began c.turn_solo.new.store c.args.session.now c.turn_solo.new.session zero
     was c.in-Ended.ensures.rules None c.in-Ended.cause (omega arith, omega arith) c.in-Ended.ensures.again.0 c.in-Ended.ensures.again.1 c.in-Ended.ensures.counts
     (c.in-Ended.ensures.law co terms was.later was.stands)

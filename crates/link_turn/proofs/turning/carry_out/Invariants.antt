@@ -13,12 +13,12 @@ invariant-loop-given g l =
     let disk = g.D.Disk in
     let course = g.P.Meter.course in
     let readings = g.K.Clock.readings in record {
-      wishes : Wishes core.tags core.next_tag core.holds core.kind core.hears core.refuses core.said disk.meaning l.wish l.session l.store (g.K.Clock.latest l.clock);
+      wishes : Wishes core.protocol disk.meaning l.wish l.session l.store (g.K.Clock.latest l.clock);
       terms : terms_of l.session ≡ terms_of l.initial.session;
       rules : rules_in l.store ≡ rules_in l.initial.store;
       counts : CountsCause l.stop (cause_in l.fn.first l.initial.session.phase) (cause_in l.wish l.session.phase) (course l.initial.peer).counts (course l.peer).counts;
-      law : Always (λ c t talk. Stands core.hears core.refuses core.said c t l.fn.first talk l.initial.session
-          → Carries core.hears core.refuses core.said disk.meaning c t talk (course l.initial.peer) (course l.peer)
+      law : Always (λ c t talk. Stands core.protocol c t l.fn.first talk l.initial.session
+          → Carries core.protocol disk.meaning c t talk (course l.initial.peer) (course l.peer)
           (readings l.initial.clock) (readings l.clock) l.initial.store l.store l.wish l.session);
     }
 

@@ -13,8 +13,8 @@ carry_out-requires g c =
     let disk = g.D.Disk in
     let latest_now : now_of c.next-wish.new.self ≤ c.now.result = omega (arith, c.next-wish.ensures.latest) in
     record {
-      wishes = subst (λ (latest : ℕ). Wishes core.tags core.next_tag core.holds core.kind core.hears core.refuses core.said disk.meaning c.next-wish.result c.next-wish.new.self c.args.store.now latest) (sym c.now.ensures.latest)
-          (wishes_first core.tags core.next_tag core.holds core.kind disk.meaning core.hears core.refuses core.said c.first-given.result c.next-wish.result c.args.session.now c.next-wish.new.self
+      wishes = subst (λ (latest : ℕ). Wishes core.protocol disk.meaning c.next-wish.result c.next-wish.new.self c.args.store.now latest) (sym c.now.ensures.latest)
+          (wishes_first disk.meaning core.protocol c.first-given.result c.next-wish.result c.args.session.now c.next-wish.new.self
           c.args.store.now (g.K.Clock.latest c.args.clock.now) c.now.result c.requires.may c.now.ensures.range c.next-wish.ensures.session c.next-wish.ensures.entry latest_now tt c.next-wish.ensures.law);
     }
 
@@ -22,11 +22,11 @@ pub returns-in-Some-clause-again : goal.returns-in-Some-clause-again
 returns-in-Some-clause-again g c =
     let core = g.C.LinkCore in
     let disk = g.D.Disk in
-    let kept = terms_first core.tags core.next_tag core.holds core.kind disk.meaning core.hears core.refuses core.said c.first-given.result c.next-wish.result c.args.session.now
+    let kept = terms_first disk.meaning core.protocol c.first-given.result c.next-wish.result c.args.session.now
     c.next-wish.new.self c.args.store.now (g.K.Clock.latest c.args.clock.now) c.now.result c.requires.may tt c.next-wish.ensures.law in
-    again_ended core.tags core.next_tag core.holds core.kind disk.meaning core.hears core.refuses core.said c.in-Some.cause c.args.session.now c.carry_out.new.session c.carry_out.new.store
+    again_ended disk.meaning core.protocol c.in-Some.cause c.args.session.now c.carry_out.new.session c.carry_out.new.store
     (g.K.Clock.latest c.carry_out.new.clock)
-    (subst (λ (end : Option EndCause). IsDone core.tags core.next_tag core.holds core.kind core.hears core.refuses core.said disk.meaning end c.carry_out.new.session c.carry_out.new.store (g.K.Clock.latest c.carry_out.new.clock))
+    (subst (λ (end : Option EndCause). IsDone core.protocol disk.meaning end c.carry_out.new.session c.carry_out.new.store (g.K.Clock.latest c.carry_out.new.clock))
     c.in-Some.is c.carry_out.ensures.done)
     (c.carry_out.ensures.terms ∙ kept)
 
@@ -36,7 +36,7 @@ returns-in-Some-clause-law g c =
     let disk = g.D.Disk in
     let course = g.P.Meter.course in
     let readings = g.K.Clock.readings in
-    λ co terms talk stands. turning core.tags core.next_tag core.holds core.kind disk.meaning core.hears core.refuses core.said co terms talk c.is_fresh.result c.args.stop c.first-given.result
+    λ co terms talk stands. turning disk.meaning core.protocol co terms talk c.is_fresh.result c.args.stop c.first-given.result
     c.next-wish.result c.args.session.now c.next-wish.new.self c.carry_out.new.session (course c.args.peer.now) (course c.first-given.new.source) (course c.carry_out.new.peer) (readings c.args.clock.now) (readings c.now.new.self)
     (readings c.carry_out.new.clock) c.args.store.now c.carry_out.new.store c.now.result c.carry_out.result (Ended c.in-Some.cause) stands c.first-given.ensures c.now.ensures.told c.now.ensures.range tt c.next-wish.ensures.law
     (λ later stood. c.carry_out.ensures.law co terms later stood) c.carry_out.ensures.done.wishes.begun
@@ -48,7 +48,7 @@ returns-in-None-clause-law g c =
     let disk = g.D.Disk in
     let course = g.P.Meter.course in
     let readings = g.K.Clock.readings in
-    λ co terms talk stands. turning core.tags core.next_tag core.holds core.kind disk.meaning core.hears core.refuses core.said co terms talk c.is_fresh.result c.args.stop c.first-given.result
+    λ co terms talk stands. turning disk.meaning core.protocol co terms talk c.is_fresh.result c.args.stop c.first-given.result
     c.next-wish.result c.args.session.now c.next-wish.new.self c.carry_out.new.session (course c.args.peer.now) (course c.first-given.new.source) (course c.carry_out.new.peer) (readings c.args.clock.now) (readings c.now.new.self)
     (readings c.carry_out.new.clock) c.args.store.now c.carry_out.new.store c.now.result c.carry_out.result (On c.octets_in-heard.result) stands c.first-given.ensures c.now.ensures.told c.now.ensures.range tt c.next-wish.ensures.law
     (λ later stood. c.carry_out.ensures.law co terms later stood) c.carry_out.ensures.done.wishes.begun

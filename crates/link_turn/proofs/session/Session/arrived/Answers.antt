@@ -21,5 +21,5 @@ returns-clause-wished g c =
 
 pub returns-clause-law : goal.returns-clause-law
 returns-clause-law g c = λ core terms talk owes frames to.
-    records_then g.C.LinkCore.hears g.C.LinkCore.refuses g.C.LinkCore.said core terms (recording_is.Message c.args.tag) (entry.Arrived (record { smsc = c.in-Ok-Ok.smsc; sms = record c.args.sms { smsc = c.in-Ok-Ok.own; time = c.args.self.now.latest } })) (arrive c.args.sms) talk c.args.self.now _ _ owes frames to (record { core = refl; terms = refl; up = refl; now = refl; spoke = refl; found = λ yes. yes }) refl refl refl refl refl
+    records_then g.C.LinkCore.protocol core terms (recording_is.Message c.args.tag) (entry.Arrived (record { smsc = c.in-Ok-Ok.smsc; sms = record c.args.sms { smsc = c.in-Ok-Ok.own; time = c.args.self.now.latest } })) (arrive c.args.sms) talk c.args.self.now _ _ owes frames to (record { core = refl; terms = refl; up = refl; now = refl; spoke = refl; tag = refl; found = λ yes. yes }) refl refl refl refl refl
     (ap (λ (x : List ℕ). Some (entry.Arrived (record { smsc = x; sms = record c.args.sms { smsc = c.args.self.now.terms.smsc; time = c.args.self.now.latest } }))) (sym c.in-Ok-Ok.ensures) ∙ ap (λ (y : List ℕ). Some (entry.Arrived (record { smsc = c.in-Ok-Ok.smsc; sms = record c.args.sms { smsc = y; time = c.args.self.now.latest } }))) (sym c.in-Ok-Ok.ensures')) refl refl

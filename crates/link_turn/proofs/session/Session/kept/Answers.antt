@@ -4,17 +4,17 @@ use Rattle.std.specs.Prelude.{Result}
 use Rattle.gate_model.specs.declared.reply.Refusal.{Refusal}
 use Rattle.gate_model.specs.declared.reply.Reply.{Reply}
 use Rattle.link_turn.specs.Steps.{records}
-use Rattle.link_turn.specs.SessionSteps.{with_step, StandsBehind}
+use Rattle.link_turn.specs.SessionSteps.{with_step_at, StandsBehind}
 use Rattle.link_turn.specs.declared.session.Recording.TheVariants as recording_is
 use Rattle.link_turn.proofs.Answering.{recorded_owes}
 use Rattle.link_turn.proofs.session.Session.kept.Goals as goal
 
 pub returns-in-Ok-clause-law : goal.returns-in-Ok-clause-law
 returns-in-Ok-clause-law g c = λ core terms talk kept r.
-    subst (λ (o : Result Reply Refusal). StandsBehind g.C.LinkCore.hears g.C.LinkCore.refuses g.C.LinkCore.said core terms c.answer.result (with_step (records kept o) talk) c.answer.new.self) (sym c.in-Ok.is)
-    ([], c.answer.ensures.law core terms (with_step (records kept (Ok c.in-Ok.field-0)) talk) (recorded_owes g.C.LinkCore.hears g.C.LinkCore.refuses g.C.LinkCore.said core terms (recording_is.Message c.args.tag) kept c.in-Ok.field-0 talk c.args.self.now r) r.frames tt)
+    subst (λ (o : Result Reply Refusal). StandsBehind g.C.LinkCore.protocol core terms c.answer.result (with_step_at c.args.self.now.latest (records kept o) talk) c.answer.new.self) (sym c.in-Ok.is)
+    ([], c.answer.ensures.law core terms (with_step_at c.args.self.now.latest (records kept (Ok c.in-Ok.field-0)) talk) (recorded_owes g.C.LinkCore.protocol core terms (recording_is.Message c.args.tag) kept c.in-Ok.field-0 talk c.args.self.now r) r.frames tt)
 
 pub returns-in-Err-clause-law : goal.returns-in-Err-clause-law
 returns-in-Err-clause-law g c = λ core terms talk kept r.
-    subst (λ (o : Result Reply Refusal). StandsBehind g.C.LinkCore.hears g.C.LinkCore.refuses g.C.LinkCore.said core terms c.refused.result (with_step (records kept o) talk) c.refused.new.self) (sym c.in-Err.is)
+    subst (λ (o : Result Reply Refusal). StandsBehind g.C.LinkCore.protocol core terms c.refused.result (with_step_at c.args.self.now.latest (records kept o) talk) c.refused.new.self) (sym c.in-Err.is)
     (c.refused.ensures.law core terms talk kept r)

@@ -13,8 +13,8 @@ use Rattle.link_turn.proofs.session.Session.leave.Goals as goal
 pub returns-in-Some-take_first-clause-law : goal.returns-in-Some-take_first-clause-law
 returns-in-Some-take_first-clause-law g c = λ core terms talk l.
     let a = uses_taken (record c.args.self.now { phase = Leaving c.args.cause c.args.held }) c.take_first.new.self c.take_first.ensures.same in
-    let l' = subst (λ (one : Option ℕ). IsLeaving g.C.LinkCore.hears g.C.LinkCore.refuses g.C.LinkCore.said core terms c.args.cause one talk c.args.self.now) c.in_default.is l in
-    leaves_first g.C.LinkCore.hears g.C.LinkCore.refuses g.C.LinkCore.said core terms c.args.cause c.in-Some-take_first.submitted talk c.args.self.now c.take_first.new.self _ l' a.0.core a.0.terms a.0.up c.in-Some-take_first.ensures.first
+    let l' = subst (λ (one : Option ℕ). IsLeaving g.C.LinkCore.protocol core terms c.args.cause one talk c.args.self.now) c.in_default.is l in
+    leaves_first g.C.LinkCore.protocol core terms c.args.cause c.in-Some-take_first.submitted talk c.args.self.now c.take_first.new.self _ l' a.0.core a.0.terms a.0.up c.in-Some-take_first.ensures.first
     (a.3 ∙ ap (Leaving c.args.cause) c.in_default.is) refl
 
 pub returns-in-Some-take_first-clause-lighter : goal.returns-in-Some-take_first-clause-lighter

@@ -25,42 +25,42 @@ returns-in-Ok-NeedMore-clause-law g c = λ core terms talk ready frames.
 pub returns-in-Ok-Bad-clause-law : goal.returns-in-Ok-Bad-clause-law
 returns-in-Ok-Bad-clause-law g c = λ core terms talk ready frames.
     let i = c.loop-heard.invariant.law core terms talk ready frames in
-    let told = subst (λ (o : List ℕ). Tells g.C.LinkCore.hears g.C.LinkCore.refuses o (framed.Bad c.in-Ok-Bad.at c.in-Ok-Bad.code)) c.as_slice.ensures
-    (subst (λ (x : Framed). Tells g.C.LinkCore.hears g.C.LinkCore.refuses c.as_slice.result.now x) c.in-Ok-Bad.field-0-is c.in-Ok-Bad.ensures.read.told) in (
+    let told = subst (λ (o : List ℕ). Tells g.C.LinkCore.protocol.hears g.C.LinkCore.protocol.refuses o (framed.Bad c.in-Ok-Bad.at c.in-Ok-Bad.code)) c.as_slice.ensures
+    (subst (λ (x : Framed). Tells g.C.LinkCore.protocol.hears g.C.LinkCore.protocol.refuses c.as_slice.result.now x) c.in-Ok-Bad.field-0-is c.in-Ok-Bad.ensures.read.told) in (
       i.0,
-      c.end.ensures.law core terms (with_handled i.0 talk) (ends_idle g.C.LinkCore.hears g.C.LinkCore.refuses g.C.LinkCore.said core terms (end_is.BadFrame c.in-Ok-Bad.at c.in-Ok-Bad.code) (with_handled i.0 talk) c.loop-heard.self i.1 i.2
-          (idle_here g.C.LinkCore.hears g.C.LinkCore.refuses g.C.LinkCore.said core terms (with_handled i.0 talk) c.loop-heard.self i.1 (none_has_none g.C.LinkCore.hears c.loop-heard.self.kept told.0), told.0, told.1)),
+      c.end.ensures.law core terms (with_handled i.0 talk) (ends_idle g.C.LinkCore.protocol core terms (end_is.BadFrame c.in-Ok-Bad.at c.in-Ok-Bad.code) (with_handled i.0 talk) c.loop-heard.self i.1 i.2.frames
+          (idle_here g.C.LinkCore.protocol core terms (with_handled i.0 talk) c.loop-heard.self i.1 (none_has_none g.C.LinkCore.protocol.hears c.loop-heard.self.kept told.0), told.0, told.1)),
     )
 
 pub returns-in-Err-clause-law : goal.returns-in-Err-clause-law
 returns-in-Err-clause-law g c = λ core terms talk ready frames.
     let i = c.loop-heard.invariant.law core terms talk ready frames in
-    (i.0, c.end-in-Err.ensures.law core terms (with_handled i.0 talk) (ends_idle g.C.LinkCore.hears g.C.LinkCore.refuses g.C.LinkCore.said core terms end_is.Memory (with_handled i.0 talk) c.loop-heard.self i.1 i.2 (inl i.1.whole)))
+    (i.0, c.end-in-Err.ensures.law core terms (with_handled i.0 talk) (ends_idle g.C.LinkCore.protocol core terms end_is.Memory (with_handled i.0 talk) c.loop-heard.self i.1 i.2.frames (inl (record { none_cut = i.1.whole; timed = i.1.keeps.timed }))))
 
 pub returns-in-Some-clause-law : goal.returns-in-Some-clause-law
 returns-in-Some-clause-law g c = λ core terms talk ready frames.
-    let told = subst (λ (o : List ℕ). Tells g.C.LinkCore.hears g.C.LinkCore.refuses o (framed.Whole c.in-Ok-Whole.heard c.in-Ok-Whole.len)) c.as_slice.ensures
-    (subst (λ (x : Framed). Tells g.C.LinkCore.hears g.C.LinkCore.refuses c.as_slice.result.now x) c.in-Ok-Whole.field-0-is c.in-Ok-Whole.ensures.read.told) in
+    let told = subst (λ (o : List ℕ). Tells g.C.LinkCore.protocol.hears g.C.LinkCore.protocol.refuses o (framed.Whole c.in-Ok-Whole.heard c.in-Ok-Whole.len)) c.as_slice.ensures
+    (subst (λ (x : Framed). Tells g.C.LinkCore.protocol.hears g.C.LinkCore.protocol.refuses c.as_slice.result.now x) c.in-Ok-Whole.field-0-is c.in-Ok-Whole.ensures.read.told) in
     let i = c.loop-heard.invariant.law core terms talk ready frames in
     let a = front_dropped c.in-Ok-Whole.len c.loop-heard.self c.drop_front.new.self c.drop_front.ensures in
-    let f = faces g.C.LinkCore.hears g.C.LinkCore.refuses g.C.LinkCore.said core terms c.in-Ok-Whole.heard c.in-Ok-Whole.len (with_handled i.0 talk) c.loop-heard.self c.drop_front.new.self i.1 i.2 a.0 a.1 a.2 a.3 (told.0) in
+    let f = faces g.C.LinkCore.protocol core terms c.in-Ok-Whole.heard c.in-Ok-Whole.len (with_handled i.0 talk) c.loop-heard.self c.drop_front.new.self i.1 i.2 a.0 a.1 a.2 a.3 (told.0) in
     let h = c.handle.ensures.law core terms (with_handled i.0 talk) f in
-    (c.in-Ok-Whole.heard ∷ i.0, subst (λ (o : Option Wish). StandsThen g.C.LinkCore.hears g.C.LinkCore.refuses g.C.LinkCore.said core terms o (with_step (hears c.in-Ok-Whole.heard) (with_handled i.0 talk)) c.handle.new.self) c.in-Some.is h)
+    (c.in-Ok-Whole.heard ∷ i.0, subst (λ (o : Option Wish). StandsThen g.C.LinkCore.protocol core terms o (with_step (hears c.in-Ok-Whole.heard) (with_handled i.0 talk)) c.handle.new.self) c.in-Some.is h)
 
 pub returns-in-Some-clause-lighter : goal.returns-in-Some-clause-lighter
 returns-in-Some-clause-lighter g c =
-    let told = subst (λ (o : List ℕ). Tells g.C.LinkCore.hears g.C.LinkCore.refuses o (framed.Whole c.in-Ok-Whole.heard c.in-Ok-Whole.len)) c.as_slice.ensures
-    (subst (λ (x : Framed). Tells g.C.LinkCore.hears g.C.LinkCore.refuses c.as_slice.result.now x) c.in-Ok-Whole.field-0-is c.in-Ok-Whole.ensures.read.told) in
-    let some = frame_some g.C.LinkCore.hears g.C.LinkCore.holds g.C.LinkCore.most c.in-Ok-Whole.len c.loop-heard.self.kept c.in-Ok-Whole.heard c.in-Ok-Whole.ensures.grammar told.0 in
+    let told = subst (λ (o : List ℕ). Tells g.C.LinkCore.protocol.hears g.C.LinkCore.protocol.refuses o (framed.Whole c.in-Ok-Whole.heard c.in-Ok-Whole.len)) c.as_slice.ensures
+    (subst (λ (x : Framed). Tells g.C.LinkCore.protocol.hears g.C.LinkCore.protocol.refuses c.as_slice.result.now x) c.in-Ok-Whole.field-0-is c.in-Ok-Whole.ensures.read.told) in
+    let some = frame_some g.C.LinkCore.protocol.hears g.C.LinkCore.protocol.holds g.C.LinkCore.protocol.most c.in-Ok-Whole.len c.loop-heard.self.kept c.in-Ok-Whole.heard c.in-Ok-Whole.ensures.grammar told.0 in
     let less = frame_weighs c.in-Ok-Whole.len c.args.self.now c.loop-heard.self c.drop_front.new.self c.drop_front.ensures some told.1 c.loop-heard.invariant.lighter in
     let handled = subst (λ (o : Option Wish). WeighsThen o c.drop_front.new.self c.handle.new.self) c.in-Some.is c.handle.ensures.lighter in
     omega (arith, less, handled)
 
 pub returns-in-Some-clause-spoke : goal.returns-in-Some-clause-spoke
 returns-in-Some-clause-spoke g c = λ spoke.
-    let told = subst (λ (o : List ℕ). Tells g.C.LinkCore.hears g.C.LinkCore.refuses o (framed.Whole c.in-Ok-Whole.heard c.in-Ok-Whole.len)) c.as_slice.ensures
-    (subst (λ (x : Framed). Tells g.C.LinkCore.hears g.C.LinkCore.refuses c.as_slice.result.now x) c.in-Ok-Whole.field-0-is c.in-Ok-Whole.ensures.read.told) in
-    let some = frame_some g.C.LinkCore.hears g.C.LinkCore.holds g.C.LinkCore.most c.in-Ok-Whole.len c.loop-heard.self.kept c.in-Ok-Whole.heard c.in-Ok-Whole.ensures.grammar told.0 in
+    let told = subst (λ (o : List ℕ). Tells g.C.LinkCore.protocol.hears g.C.LinkCore.protocol.refuses o (framed.Whole c.in-Ok-Whole.heard c.in-Ok-Whole.len)) c.as_slice.ensures
+    (subst (λ (x : Framed). Tells g.C.LinkCore.protocol.hears g.C.LinkCore.protocol.refuses c.as_slice.result.now x) c.in-Ok-Whole.field-0-is c.in-Ok-Whole.ensures.read.told) in
+    let some = frame_some g.C.LinkCore.protocol.hears g.C.LinkCore.protocol.holds g.C.LinkCore.protocol.most c.in-Ok-Whole.len c.loop-heard.self.kept c.in-Ok-Whole.heard c.in-Ok-Whole.ensures.grammar told.0 in
     let less = frame_weighs c.in-Ok-Whole.len c.args.self.now c.loop-heard.self c.drop_front.new.self c.drop_front.ensures some told.1 c.loop-heard.invariant.lighter in
     let handled = subst (λ (o : Option Wish). WeighsThen o c.drop_front.new.self c.handle.new.self) c.in-Some.is c.handle.ensures.lighter in
     omega (arith, less, handled)
@@ -70,23 +70,23 @@ returns-in-Some-clause-ends g c = subst (λ (o : Option Wish). EndsItselfThen o 
 
 pub loop-heard-preserved : goal.loop-heard-preserved
 loop-heard-preserved g c = record {
-  well = subst (λ (o : Option Wish). IsWishedThen g.C.LinkCore.tags g.C.LinkCore.next_tag g.C.LinkCore.holds g.C.LinkCore.hears g.C.LinkCore.most o c.handle.new.self) c.in_default.is c.handle.ensures.wished;
+  well = subst (λ (o : Option Wish). IsWishedThen g.C.LinkCore.protocol o c.handle.new.self) c.in_default.is c.handle.ensures.wished;
   latest = c.handle.ensures.latest ∙ ap now_of c.drop_front.ensures ∙ c.loop-heard.invariant.latest;
   lighter =
-      let told = subst (λ (o : List ℕ). Tells g.C.LinkCore.hears g.C.LinkCore.refuses o (framed.Whole c.in-Ok-Whole.heard c.in-Ok-Whole.len)) c.as_slice.ensures
-      (subst (λ (x : Framed). Tells g.C.LinkCore.hears g.C.LinkCore.refuses c.as_slice.result.now x) c.in-Ok-Whole.field-0-is c.in-Ok-Whole.ensures.read.told) in
-      let some = frame_some g.C.LinkCore.hears g.C.LinkCore.holds g.C.LinkCore.most c.in-Ok-Whole.len c.loop-heard.self.kept c.in-Ok-Whole.heard c.in-Ok-Whole.ensures.grammar told.0 in
+      let told = subst (λ (o : List ℕ). Tells g.C.LinkCore.protocol.hears g.C.LinkCore.protocol.refuses o (framed.Whole c.in-Ok-Whole.heard c.in-Ok-Whole.len)) c.as_slice.ensures
+      (subst (λ (x : Framed). Tells g.C.LinkCore.protocol.hears g.C.LinkCore.protocol.refuses c.as_slice.result.now x) c.in-Ok-Whole.field-0-is c.in-Ok-Whole.ensures.read.told) in
+      let some = frame_some g.C.LinkCore.protocol.hears g.C.LinkCore.protocol.holds g.C.LinkCore.protocol.most c.in-Ok-Whole.len c.loop-heard.self.kept c.in-Ok-Whole.heard c.in-Ok-Whole.ensures.grammar told.0 in
       let less = frame_weighs c.in-Ok-Whole.len c.args.self.now c.loop-heard.self c.drop_front.new.self c.drop_front.ensures some told.1 c.loop-heard.invariant.lighter in
       let handled = subst (λ (o : Option Wish). WeighsThen o c.drop_front.new.self c.handle.new.self) c.in_default.is c.handle.ensures.lighter in
       inr (omega (arith, less, handled));
   law = λ core terms talk ready frames.
-      let told = subst (λ (o : List ℕ). Tells g.C.LinkCore.hears g.C.LinkCore.refuses o (framed.Whole c.in-Ok-Whole.heard c.in-Ok-Whole.len)) c.as_slice.ensures
-      (subst (λ (x : Framed). Tells g.C.LinkCore.hears g.C.LinkCore.refuses c.as_slice.result.now x) c.in-Ok-Whole.field-0-is c.in-Ok-Whole.ensures.read.told) in
+      let told = subst (λ (o : List ℕ). Tells g.C.LinkCore.protocol.hears g.C.LinkCore.protocol.refuses o (framed.Whole c.in-Ok-Whole.heard c.in-Ok-Whole.len)) c.as_slice.ensures
+      (subst (λ (x : Framed). Tells g.C.LinkCore.protocol.hears g.C.LinkCore.protocol.refuses c.as_slice.result.now x) c.in-Ok-Whole.field-0-is c.in-Ok-Whole.ensures.read.told) in
       let i = c.loop-heard.invariant.law core terms talk ready frames in
       let a = front_dropped c.in-Ok-Whole.len c.loop-heard.self c.drop_front.new.self c.drop_front.ensures in
-      let f = faces g.C.LinkCore.hears g.C.LinkCore.refuses g.C.LinkCore.said core terms c.in-Ok-Whole.heard c.in-Ok-Whole.len (with_handled i.0 talk) c.loop-heard.self c.drop_front.new.self i.1 i.2 a.0 a.1 a.2 a.3 (told.0) in
+      let f = faces g.C.LinkCore.protocol core terms c.in-Ok-Whole.heard c.in-Ok-Whole.len (with_handled i.0 talk) c.loop-heard.self c.drop_front.new.self i.1 i.2 a.0 a.1 a.2 a.3 (told.0) in
       let h = c.handle.ensures.law core terms (with_handled i.0 talk) f in
-      let q = subst (λ (o : Option Wish). StandsThen g.C.LinkCore.hears g.C.LinkCore.refuses g.C.LinkCore.said core terms o (with_step (hears c.in-Ok-Whole.heard) (with_handled i.0 talk)) c.handle.new.self) c.in_default.is h in
+      let q = subst (λ (o : Option Wish). StandsThen g.C.LinkCore.protocol core terms o (with_step (hears c.in-Ok-Whole.heard) (with_handled i.0 talk)) c.handle.new.self) c.in_default.is h in
       (c.in-Ok-Whole.heard ∷ i.0, q.0, q.1);
 }
 

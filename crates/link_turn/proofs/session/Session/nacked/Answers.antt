@@ -11,13 +11,13 @@ pub returns-in-Some-clause-law : goal.returns-in-Some-clause-law
 returns-in-Some-clause-law g c = λ core terms talk code f.
     let a = uses_taken c.args.self.now c.take_answered.new.self c.take_answered.ensures.same in
     c.give_back.ensures.law core terms (with_step (hears (heard_is.Nack c.args.tag code)) talk)
-    (tag_answered g.C.LinkCore.hears g.C.LinkCore.refuses g.C.LinkCore.said core terms (heard_is.Nack c.args.tag code) c.args.tag c.in-Some.message give_back talk c.args.self.now c.take_answered.new.self f a.0 refl refl refl c.take_answered.ensures.others a.1 (sym c.take_answered.ensures.found ∙ c.in-Some.is))
-    (faces_frames g.C.LinkCore.hears g.C.LinkCore.refuses g.C.LinkCore.said core terms (heard_is.Nack c.args.tag code) talk c.args.self.now c.take_answered.new.self f a.2)
+    (tag_answered g.C.LinkCore.protocol core terms (heard_is.Nack c.args.tag code) c.args.tag c.in-Some.message give_back talk c.args.self.now c.take_answered.new.self f a.0 refl refl refl c.take_answered.ensures.others a.1 (sym c.take_answered.ensures.found ∙ c.in-Some.is))
+    (faces_frames g.C.LinkCore.protocol core terms (heard_is.Nack c.args.tag code) talk c.args.self.now c.take_answered.new.self f a.2)
 
 pub returns-in-None-clause-law : goal.returns-in-None-clause-law
 returns-in-None-clause-law g c = λ core terms talk code f.
     let a = uses_taken c.args.self.now c.take_answered.new.self c.take_answered.ensures.same in
-    tag_unknown g.C.LinkCore.hears g.C.LinkCore.refuses g.C.LinkCore.said core terms (heard_is.Nack c.args.tag code) c.args.tag give_back talk c.args.self.now c.take_answered.new.self f a.0 refl refl refl c.take_answered.ensures.others a.1 a.2 (sym c.take_answered.ensures.found ∙ c.in-None.is)
+    tag_unknown g.C.LinkCore.protocol core terms (heard_is.Nack c.args.tag code) c.args.tag give_back talk c.args.self.now c.take_answered.new.self f a.0 refl refl refl c.take_answered.ensures.others a.1 a.2 (sym c.take_answered.ensures.found ∙ c.in-None.is)
 
 pub returns-in-None-clause-kept : goal.returns-in-None-clause-kept
 returns-in-None-clause-kept g c = λ none. (uses_taken c.args.self.now c.take_answered.new.self c.take_answered.ensures.same).2

@@ -13,5 +13,5 @@ returns-clause-wished g c = search (rules, one_timed)
 
 pub returns-clause-law : goal.returns-clause-law
 returns-clause-law g c = λ core terms talk owes frames to.
-    records_then g.C.LinkCore.hears g.C.LinkCore.refuses g.C.LinkCore.said core terms (recording_is.End c.args.message) (entry.Rejected (record { message = c.args.message; smsc = c.in-Ok.smsc; cause = Centre c.args.code; time = c.args.self.now.latest })) (reject c.args.message c.args.code) talk c.args.self.now _ _ owes frames to (record { core = refl; terms = refl; up = refl; now = refl; spoke = refl; found = λ yes. yes }) refl refl refl refl refl
+    records_then g.C.LinkCore.protocol core terms (recording_is.End c.args.message) (entry.Rejected (record { message = c.args.message; smsc = c.in-Ok.smsc; cause = Centre c.args.code; time = c.args.self.now.latest })) (reject c.args.message c.args.code) talk c.args.self.now _ _ owes frames to (record { core = refl; terms = refl; up = refl; now = refl; spoke = refl; tag = refl; found = λ yes. yes }) refl refl refl refl refl
     (ap (λ (x : List ℕ). Some (entry.Rejected (record { message = c.args.message; smsc = x; cause = Centre c.args.code; time = c.args.self.now.latest }))) (sym c.in-Ok.ensures)) refl refl

@@ -12,5 +12,5 @@ returns-clause-wished g c = search (rules, one_timed)
 
 pub returns-clause-law : goal.returns-clause-law
 returns-clause-law g c = λ core terms talk owes frames to.
-    records_then g.C.LinkCore.hears g.C.LinkCore.refuses g.C.LinkCore.said core terms (recording_is.Report c.args.tag) (entry.Reported (record { smsc = c.in-Ok.smsc; foreign = c.args.foreign; kind = c.args.kind; text = c.args.text; time = c.args.self.now.latest })) (report c.args.foreign c.args.kind c.args.text) talk c.args.self.now _ _ owes frames to (record { core = refl; terms = refl; up = refl; now = refl; spoke = refl; found = λ yes. yes }) refl refl refl refl refl
+    records_then g.C.LinkCore.protocol core terms (recording_is.Report c.args.tag) (entry.Reported (record { smsc = c.in-Ok.smsc; foreign = c.args.foreign; kind = c.args.kind; text = c.args.text; time = c.args.self.now.latest })) (report c.args.foreign c.args.kind c.args.text) talk c.args.self.now _ _ owes frames to (record { core = refl; terms = refl; up = refl; now = refl; spoke = refl; tag = refl; found = λ yes. yes }) refl refl refl refl refl
     (ap (λ (x : List ℕ). Some (entry.Reported (record { smsc = x; foreign = c.args.foreign; kind = c.args.kind; text = c.args.text; time = c.args.self.now.latest }))) (sym c.in-Ok.ensures)) refl refl

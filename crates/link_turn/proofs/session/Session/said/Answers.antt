@@ -9,7 +9,7 @@ pub returns-in-Saying-clause-law : goal.returns-in-Saying-clause-law
 returns-in-Saying-clause-law g c = λ core terms talk saying out is w.
     let both : phase_is.Saying saying ≡ phase_is.Saying c.in-Saying.saying = sym is ∙ c.in-Saying.is in
     let same : saying ≡ c.in-Saying.saying = cc in
-    c.said_so.ensures.law core terms talk out (subst (λ (x : Saying). WasSaid g.C.LinkCore.hears g.C.LinkCore.refuses g.C.LinkCore.said core terms x out talk c.args.self.now) same w)
+    c.said_so.ensures.law core terms talk out (subst (λ (x : Saying). WasSaid g.C.LinkCore.protocol core terms x out talk c.args.self.now) same w)
 
 pub returns-in-Saying-clause-lighter : goal.returns-in-Saying-clause-lighter
 returns-in-Saying-clause-lighter g c = λ saying is.
