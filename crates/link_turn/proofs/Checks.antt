@@ -38,18 +38,15 @@ next_is last uses first tag follows is free = record {
 }
 
 first_tag : IsNextFree counted None [] 1
-unfolding counted
-unfolding nth_tag
+unfolding counted nth_tag
 first_tag = next_is None [] 0 1 refl refl refl
 
 second_tag : IsNextFree counted (Some 1) [] 2
-unfolding counted
-unfolding nth_tag
+unfolding counted nth_tag
 second_tag = next_is (Some 1) [] 1 2 refl refl refl
 
 third_tag : (uses : List Submitted) → IsFree 3 uses → IsNextFree counted (Some 2) uses 3
-unfolding counted
-unfolding nth_tag
+unfolding counted nth_tag
 third_tag uses free = next_is (Some 2) uses 2 3 refl refl free
 
 module _ (first second : Sms) where

@@ -3,6 +3,7 @@ use Rattle.link_core.specs.Protocol.{Protocol}
 use Rattle.std.proofs.Common.{◌≡◌, ◌≢◌, ◌∙◌, refl, sym, ap, subst, ℕ, ◌+◌, Bool, true, inl, inr, List, [], ◌∷◌, ◌++◌, All, arith}
 use Rattle.std.specs.Prelude.{⊤, Option, Some, None, IfSome, IsSomeAnd, is_some, ◌&&◌}
 use Rattle.std.proofs.lemmas.List.Elements.{All-head, All-tail}
+use Rattle.std.proofs.lemmas.Slice.Eq.{bytes_eq-Decides}
 use Rattle.gate_entries.specs.Entry.{IsEntry}
 use Rattle.gate_entries.specs.declared.cause.Cause.TheVariants.{Centre}
 use Rattle.gate_entries.specs.declared.passing.Passing.{Passing}
@@ -111,7 +112,7 @@ may_record_due store link smsc (arrive sms) time kept is good in_time leased =
     let good' : IsEntry made = subst IsEntry (sym same) good in
     subst (λ (k : Recorded). MayRecord store k × IsOfLink k) same (
       record {
-        sound = (good', refl);
+        sound = (good', (bytes_eq-Decides smsc smsc).1 refl);
         small = omega (arith, entry_bound made good');
       },
       tt,
@@ -151,8 +152,8 @@ module _ {C : Type 0} (protocol : Protocol C) (core : C) (terms : Terms) where
       )
 
   may_leave : {D : Type 0} (meaning : Meaning D) (store : Store D) (brief : Passing) (steps : List Step) → IsOpen meaning store → IsOf terms.link (held steps) (is_up steps) (state_in store)
-      → MayLeave terms brief steps → MayPass (rules_in store) (state_in store) brief × IsOfThis terms.link brief
-  may_leave meaning store (passing.Returned message) steps open_ of may = (may_return store (held steps) (is_up steps) message of may, tt)
+      → MayLeave protocol.next_tag terms brief steps → MayPass (rules_in store) (state_in store) brief × IsOfThis terms.link brief
+  may_leave meaning store (passing.Returned message) steps open_ of may = (may_return store (held steps) (is_up steps) message of may.0, tt)
   may_leave meaning store (passing.Down link) steps open_ of may =
       (may_go_down meaning store (held steps) (is_up steps) link open_ of may.0 may.1 may.2, may.0)
   may_leave meaning store (passing.Up link) steps open_ of may = absurd may

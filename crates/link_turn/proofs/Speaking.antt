@@ -12,7 +12,7 @@ use Rattle.link_turn.specs.Steps.{Step, says, heards_in, times_of_out}
 use Rattle.link_turn.specs.Back.{login_said, uses_said, in_use, tag_said, last_tag, held, last_said, IsFree, IsAmong}
 use Rattle.link_turn.specs.Due.{Due, nothing, due, due_by_said, out_for}
 use Rattle.link_turn.specs.Session.{Talk, messages}
-use Rattle.link_turn.specs.SessionSteps.{AreApart, with_step_at, message_said, IsAnswer, Agrees, Frames, Holds, IsReady, Ends, Begins, IsToSay, Speaks, WasSaid, WasSilent, WasSubmitted, Stands, StandsIn}
+use Rattle.link_turn.specs.SessionSteps.{AreApart, with_step_at, message_said, IsAnswer, Agrees, Keeps, Frames, Holds, IsReady, Ends, Begins, IsToSay, Speaks, WasSaid, WasSilent, WasSubmitted, Stands, StandsIn}
 use Rattle.link_turn.specs.Talk.{AreLast, IsNextFree, MayCome, MaySay}
 use Rattle.link_turn.specs.declared.end_cause.EndCause.TheVariants as end_is
 use Rattle.link_turn.specs.declared.session.Phase.{Phase}

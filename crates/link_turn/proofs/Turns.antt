@@ -146,7 +146,7 @@ module _ {C D : Type 0} (meaning : Meaning D)
         order = latest_now;
         opened = m.opened;
         ids = m.ids;
-        link = subst (λ (t : Terms). IsLinkOf kind t (rules_in store)) same m.link;
+        link = subst (λ (t : Terms). IsLinkOf protocol.kind t (rules_in store)) same m.link;
         of = subst (λ (hs : List ℕ). IsOf terms.link hs (is_up on.later.steps) (state_in store)) (held_is talk.steps ∙ ap held_in (sym on.goes.deeds) ∙ sym (held_is on.later.steps))
             (subst (λ (up : Bool). IsOf terms.link (held talk.steps) up (state_in store)) (up_is talk.steps ∙ ap up_in (sym on.goes.deeds) ∙ sym (up_is on.later.steps)) of);
       }
@@ -178,7 +178,7 @@ module _ {C D : Type 0} (meaning : Meaning D)
           order = w.order;
           opened = w.opened;
           ids = w.ids;
-          link = subst (λ (t : Terms). IsLinkOf kind t (rules_in store)) (sym same) w.link;
+          link = subst (λ (t : Terms). IsLinkOf protocol.kind t (rules_in store)) (sym same) w.link;
           of = subst (λ (t : Terms). IsOf t.link (messages (used_by s)) s.up (state_in store)) (sym same)
               (subst (λ (hs : List ℕ). IsOf w.terms.link hs s.up (state_in store)) h.0
               (subst (λ (up : Bool). IsOf w.terms.link (held w.talk.steps) up (state_in store)) h.1 w.of));

@@ -1,5 +1,5 @@
 -- A session by itself: what it keeps, what may be given to it, and how a talk goes on by what it was given.
-use Rattle.std.specs.Prelude.{◌≡◌, ◌⊎◌, ⊤, ℕ, ◌+◌, ◌-◌, nat_lt, ◌<◌, ◌≤◌, ◌^◌, Bool, true, false, List, [], ◌∷◌, ◌++◌, length, take, map, All, IfSome, Option, Some, None, Result, Ok, Err}
+use Rattle.std.specs.Prelude.{◌≡◌, ◌⊎◌, ⊤, ℕ, ◌+◌, ◌-◌, nat_lt, ◌<◌, ◌≤◌, ◌^◌, Bool, true, false, vec_len, vec_capacity, List, [], ◌∷◌, ◌++◌, length, take, map, All, IfSome, Option, Some, None, Result, Ok, Err}
 use Rattle.std.specs.List.{Contains}
 use Rattle.exact_octets.specs.Fronts.{IsProperFront}
 use Rattle.gate_entries.specs.Entry.{IsEntry}

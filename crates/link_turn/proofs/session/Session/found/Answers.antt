@@ -14,4 +14,4 @@ returns-in-Some-clause-law g c = λ core terms talk time w.
 pub returns-in-None-clause-law : goal.returns-in-None-clause-law
 returns-in-None-clause-law g c = λ core terms talk time w.
     subst (λ (x : Option Taken). StandsBehind g.C.LinkCore.protocol core terms c.look.result (with_step_at c.args.self.now.latest (takes time (Ok x)) talk) c.look.new.self) (sym c.in-None.is)
-    (c.look.ensures.law core terms (with_step_at c.args.self.now.latest (takes time (Ok None)) talk) (taken_none g.C.LinkCore.protocol core terms time talk c.args.self.now _ w refl refl refl refl refl refl refl refl refl) (record { frames = w.frames; latest = (talk.readings, refl) }))
+    (c.look.ensures.law core terms (with_step_at c.args.self.now.latest (takes time (Ok None)) talk) (taken_none g.C.LinkCore.protocol core terms time talk c.args.self.now _ w refl refl refl refl refl refl refl) (record { frames = w.frames; latest = (talk.readings, refl) }))

@@ -1,4 +1,4 @@
-use Rattle.std.proofs.Common.{subst, sym}
+use Rattle.std.proofs.Common.{subst, sym, refl}
 use Rattle.std.specs.Prelude.{Ok, Some}
 use Rattle.gate_store.specs.declared.taken.Taken.{Taken}
 use Rattle.gate_store.specs.declared.taken.Taken.TheVariants as taken

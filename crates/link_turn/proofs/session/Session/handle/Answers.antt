@@ -13,13 +13,13 @@ pub returns-in-Report-clause-law : goal.returns-in-Report-clause-law
 returns-in-Report-clause-law g c = λ core terms talk f.
     let f' = subst (λ (x : Heard). Faces g.C.LinkCore.protocol core terms x talk c.args.self.now) c.in-Report.is f in
     subst (λ (x : Heard). StandsThen g.C.LinkCore.protocol core terms (Some c.reported.result) (with_step (hears x) talk) c.reported.new.self) (sym c.in-Report.is)
-    (c.reported.ensures.law core terms (with_step (hears (heard_is.Report c.in-Report.tag c.in-Report.foreign c.in-Report.kind c.in-Report.text)) talk) (faces_owes g.C.LinkCore.protocol core terms (heard_is.Report c.in-Report.tag c.in-Report.foreign c.in-Report.kind c.in-Report.text) (report c.in-Report.foreign c.in-Report.kind c.in-Report.text) talk c.args.self.now f' refl refl refl) f'.frames refl)
+    (c.reported.ensures.law core terms (with_step (hears (heard_is.Report c.in-Report.tag c.in-Report.foreign c.in-Report.kind c.in-Report.text)) talk) (faces_owes g.C.LinkCore.protocol core terms (heard_is.Report c.in-Report.tag c.in-Report.foreign c.in-Report.kind c.in-Report.text) (report c.in-Report.foreign c.in-Report.kind c.in-Report.text) talk c.args.self.now f' refl refl refl) (record { frames = f'.frames; latest = f'.latest }) refl)
 
 pub returns-in-Message-clause-law : goal.returns-in-Message-clause-law
 returns-in-Message-clause-law g c = λ core terms talk f.
     let f' = subst (λ (x : Heard). Faces g.C.LinkCore.protocol core terms x talk c.args.self.now) c.in-Message.is f in
     subst (λ (x : Heard). StandsThen g.C.LinkCore.protocol core terms (Some c.arrived.result) (with_step (hears x) talk) c.arrived.new.self) (sym c.in-Message.is)
-    (c.arrived.ensures.law core terms (with_step (hears (heard_is.Message c.in-Message.tag c.in-Message.sms)) talk) (faces_owes g.C.LinkCore.protocol core terms (heard_is.Message c.in-Message.tag c.in-Message.sms) (arrive c.in-Message.sms) talk c.args.self.now f' refl refl refl) f'.frames refl)
+    (c.arrived.ensures.law core terms (with_step (hears (heard_is.Message c.in-Message.tag c.in-Message.sms)) talk) (faces_owes g.C.LinkCore.protocol core terms (heard_is.Message c.in-Message.tag c.in-Message.sms) (arrive c.in-Message.sms) talk c.args.self.now f' refl refl refl) (record { frames = f'.frames; latest = f'.latest }) refl)
 
 pub returns-in-Keep-clause-law : goal.returns-in-Keep-clause-law
 returns-in-Keep-clause-law g c = λ core terms talk f.

@@ -1,7 +1,7 @@
 use Rattle.std.proofs.Common.{◌≡◌, List, ℕ, ◌+◌, subst, sym, ap, refl, inl, inr, arith}
-use Rattle.link_turn.specs.Steps.{says, records, takes}
+use Rattle.link_turn.specs.Steps.{listens, says, records, takes}
 use Rattle.link_turn.specs.Session.{FitsPhase, MayBeCut, no_talk}
-use Rattle.link_turn.specs.SessionSteps.{StandsOn, Heeds, Ends, with_step_at, message_in, passed_step}
+use Rattle.link_turn.specs.SessionSteps.{StandsOn, Heeds, Ends, with_step_at, with_octets, message_in, passed_step}
 use Rattle.link_turn.specs.declared.end_cause.EndCause.TheVariants as end_is
 use Rattle.link_turn.specs.declared.given.Given.{Given}
 use Rattle.link_turn.specs.declared.given.Given.TheVariants as given_is
@@ -9,7 +9,7 @@ use Rattle.link_turn.specs.declared.session.Phase.{Phase}
 use Rattle.link_turn.specs.declared.wish.Wish.{Wish}
 use Rattle.link_turn.specs.Weight.{GetsLighter, GetsLighterBehind, GetsLighterByTaken, EndsBy, load, weight, weight_in, weight_saying}
 use Rattle.link_turn.proofs.Weighing.{ended_lighter, over_lighter, weight-now}
-use Rattle.link_turn.proofs.Going.{with_reading, with_octets, stands_on, stands_on_behind, goes_begun, goes_heard, goes_quiet, goes_over, goes_said, goes_broken, goes_recorded, goes_passed, goes_taken}
+use Rattle.link_turn.proofs.Going.{with_reading, stands_on, stands_on_behind, goes_begun, goes_heard, goes_quiet, goes_over, goes_said, goes_broken, goes_recorded, goes_passed, goes_taken}
 use Rattle.link_turn.proofs.session.Session.next.Goals as goal
 
 pub returns-in-Begin-clause-law : goal.returns-in-Begin-clause-law
@@ -26,8 +26,8 @@ returns-in-Heard-clause-law g c = λ core terms talk wish cut stands may.
     let may' = subst (λ (x : Given). MayBeCut wish x cut) c.in-Heard.is may in
     let q = goes_heard g.C.LinkCore.protocol core terms c.in-Heard.octets c.args.now cut talk c.args.self.now wish fits.0 stands in
     subst (λ (x : Given). StandsOn g.C.LinkCore.protocol core terms wish x c.args.now cut talk c.hear.result c.hear.new.self) (sym c.in-Heard.is)
-    (stands_on_behind g.C.LinkCore.protocol core terms wish c.hear.result (given_is.Heard c.in-Heard.octets) c.args.now cut talk (with_octets c.in-Heard.octets (with_reading c.args.now talk)) c.hear.new.self q.0
-    (c.hear.ensures.law core terms (with_octets c.in-Heard.octets (with_reading c.args.now talk)) (subst (λ (o : List ℕ). Heeds g.C.LinkCore.protocol core terms o (with_octets c.in-Heard.octets (with_reading c.args.now talk)) (record c.args.self.now { latest = c.args.now })) (sym c.as_slice.ensures) q.1)))
+    (stands_on_behind g.C.LinkCore.protocol core terms wish c.hear.result (given_is.Heard c.in-Heard.octets) c.args.now cut talk (with_octets c.in-Heard.octets (with_step_at c.args.now listens talk)) c.hear.new.self q.0
+    (c.hear.ensures.law core terms talk (subst (λ (o : List ℕ). Heeds g.C.LinkCore.protocol core terms o talk (record c.args.self.now { latest = c.args.now })) (sym c.as_slice.ensures) q.1)))
 
 pub returns-in-Quiet-clause-law : goal.returns-in-Quiet-clause-law
 returns-in-Quiet-clause-law g c = λ core terms talk wish cut stands may.
@@ -35,7 +35,7 @@ returns-in-Quiet-clause-law g c = λ core terms talk wish cut stands may.
     let may' = subst (λ (x : Given). MayBeCut wish x cut) c.in-Quiet.is may in
     let q = goes_quiet g.C.LinkCore.protocol core terms c.args.now cut talk c.args.self.now wish fits stands in
     subst (λ (x : Given). StandsOn g.C.LinkCore.protocol core terms wish x c.args.now cut talk c.quiet.result c.quiet.new.self) (sym c.in-Quiet.is)
-    (stands_on_behind g.C.LinkCore.protocol core terms wish c.quiet.result given_is.Quiet c.args.now cut talk (with_reading c.args.now talk) c.quiet.new.self q.0 (c.quiet.ensures.law core terms (with_reading c.args.now talk) q.1 q.2))
+    (stands_on_behind g.C.LinkCore.protocol core terms wish c.quiet.result given_is.Quiet c.args.now cut talk (with_step_at c.args.now listens talk) c.quiet.new.self q.0 (c.quiet.ensures.law core terms talk q.1 q.2))
 
 pub returns-in-End-clause-law : goal.returns-in-End-clause-law
 returns-in-End-clause-law g c = λ core terms talk wish cut stands may.
@@ -43,7 +43,7 @@ returns-in-End-clause-law g c = λ core terms talk wish cut stands may.
     let may' = subst (λ (x : Given). MayBeCut wish x cut) c.in-End.is may in
     let q = goes_over g.C.LinkCore.protocol core terms given_is.End end_is.PeerEnd c.args.now cut talk c.args.self.now wish fits stands refl refl refl (λ idle. idle) in
     subst (λ (x : Given). StandsOn g.C.LinkCore.protocol core terms wish x c.args.now cut talk c.end.result c.end.new.self) (sym c.in-End.is)
-    (stands_on g.C.LinkCore.protocol core terms wish c.end.result given_is.End c.args.now cut talk (with_reading c.args.now talk) c.end.new.self q.0 (c.end.ensures.law core terms (with_reading c.args.now talk) q.1))
+    (stands_on g.C.LinkCore.protocol core terms wish c.end.result given_is.End c.args.now cut talk (with_step_at c.args.now listens talk) c.end.new.self q.0 (c.end.ensures.law core terms (with_step_at c.args.now listens talk) q.1))
 
 pub returns-in-Fault-clause-law : goal.returns-in-Fault-clause-law
 returns-in-Fault-clause-law g c = λ core terms talk wish cut stands may.
@@ -51,7 +51,7 @@ returns-in-Fault-clause-law g c = λ core terms talk wish cut stands may.
     let may' = subst (λ (x : Given). MayBeCut wish x cut) c.in-Fault.is may in
     let q = goes_over g.C.LinkCore.protocol core terms given_is.Fault end_is.PeerFault c.args.now cut talk c.args.self.now wish fits stands refl refl refl (λ idle. inl idle) in
     subst (λ (x : Given). StandsOn g.C.LinkCore.protocol core terms wish x c.args.now cut talk c.end-in-Fault.result c.end-in-Fault.new.self) (sym c.in-Fault.is)
-    (stands_on g.C.LinkCore.protocol core terms wish c.end-in-Fault.result given_is.Fault c.args.now cut talk (with_reading c.args.now talk) c.end-in-Fault.new.self q.0 (c.end-in-Fault.ensures.law core terms (with_reading c.args.now talk) q.1))
+    (stands_on g.C.LinkCore.protocol core terms wish c.end-in-Fault.result given_is.Fault c.args.now cut talk (with_step_at c.args.now listens talk) c.end-in-Fault.new.self q.0 (c.end-in-Fault.ensures.law core terms (with_step_at c.args.now listens talk) q.1))
 
 pub returns-in-Stop-clause-law : goal.returns-in-Stop-clause-law
 returns-in-Stop-clause-law g c = λ core terms talk wish cut stands may.
@@ -59,7 +59,7 @@ returns-in-Stop-clause-law g c = λ core terms talk wish cut stands may.
     let may' = subst (λ (x : Given). MayBeCut wish x cut) c.in-Stop.is may in
     let q = goes_over g.C.LinkCore.protocol core terms given_is.Stop end_is.Closed c.args.now cut talk c.args.self.now wish fits stands refl refl refl (λ idle. idle) in
     subst (λ (x : Given). StandsOn g.C.LinkCore.protocol core terms wish x c.args.now cut talk c.end-in-Stop.result c.end-in-Stop.new.self) (sym c.in-Stop.is)
-    (stands_on g.C.LinkCore.protocol core terms wish c.end-in-Stop.result given_is.Stop c.args.now cut talk (with_reading c.args.now talk) c.end-in-Stop.new.self q.0 (c.end-in-Stop.ensures.law core terms (with_reading c.args.now talk) q.1))
+    (stands_on g.C.LinkCore.protocol core terms wish c.end-in-Stop.result given_is.Stop c.args.now cut talk (with_step_at c.args.now listens talk) c.end-in-Stop.new.self q.0 (c.end-in-Stop.ensures.law core terms (with_step_at c.args.now listens talk) q.1))
 
 pub returns-in-Said-clause-law : goal.returns-in-Said-clause-law
 returns-in-Said-clause-law g c = λ core terms talk wish cut stands may.
@@ -67,13 +67,13 @@ returns-in-Said-clause-law g c = λ core terms talk wish cut stands may.
     let may' = subst (λ (x : Given). MayBeCut wish x cut) c.in-Said.is may in
     let q = goes_said g.C.LinkCore.protocol core terms fits.0 c.args.now cut talk c.args.self.now wish fits.1 c.requires.fits.order stands in
     subst (λ (x : Given). StandsOn g.C.LinkCore.protocol core terms wish x c.args.now cut talk c.said.result c.said.new.self) (sym c.in-Said.is)
-    (stands_on_behind g.C.LinkCore.protocol core terms wish c.said.result given_is.Said c.args.now cut talk (with_step_at c.args.self.now.latest (says q.0 c.args.now) (with_reading c.args.now talk)) c.said.new.self q.1 (c.said.ensures.law core terms (with_reading c.args.now talk) fits.0 q.0 fits.1 q.2))
+    (stands_on_behind g.C.LinkCore.protocol core terms wish c.said.result given_is.Said c.args.now cut talk (with_step_at c.args.now (says q.0 c.args.now) talk) c.said.new.self q.1 (c.said.ensures.law core terms talk fits.0 q.0 fits.1 q.2))
 
 pub returns-in-SayFault-clause-law : goal.returns-in-SayFault-clause-law
 returns-in-SayFault-clause-law g c = λ core terms talk wish cut stands may.
     let fits = subst (λ (x : Given). FitsPhase g.C.LinkCore.protocol.kind c.args.now c.args.self.now x) c.in-SayFault.is c.requires.fits.phase in
     let may' = subst (λ (x : Given). MayBeCut wish x cut) c.in-SayFault.is may in
-    let q = goes_broken g.C.LinkCore.protocol core terms given_is.SayFault end_is.PeerFault fits.0 c.args.now cut talk c.args.self.now wish fits.1 stands refl (λ o. refl) (λ o. refl) (λ o e. subst (λ (w : Wish). MayBeCut w given_is.SayFault cut) e may') (λ off. inr off) in
+    let q = goes_broken g.C.LinkCore.protocol core terms given_is.SayFault end_is.PeerFault fits.0 c.args.now cut talk c.args.self.now wish fits.1 c.requires.fits.order stands refl (λ o. refl) (λ o. refl) (λ o e. subst (λ (w : Wish). MayBeCut w given_is.SayFault cut) e may') (λ off. inr off) in
     subst (λ (x : Given). StandsOn g.C.LinkCore.protocol core terms wish x c.args.now cut talk c.broken.result c.broken.new.self) (sym c.in-SayFault.is)
     (stands_on g.C.LinkCore.protocol core terms wish c.broken.result given_is.SayFault c.args.now cut talk (record (with_reading c.args.now talk) { cut = cut }) c.broken.new.self q.0
     (c.broken.ensures.law core terms (record (with_reading c.args.now talk) { cut = cut }) (subst (λ (p : Phase). Ends g.C.LinkCore.protocol core terms end_is.PeerFault (message_in p) (record (with_reading c.args.now talk) { cut = cut }) (record c.args.self.now { latest = c.args.now })) (sym fits.1) q.1)))
@@ -84,7 +84,7 @@ returns-in-Answered-clause-law g c = λ core terms talk wish cut stands may.
     let may' = subst (λ (x : Given). MayBeCut wish x cut) c.in-Answered.is may in
     let q = goes_recorded g.C.LinkCore.protocol core terms c.in-Answered.outcome fits.0 c.args.now cut talk c.args.self.now wish fits.1 stands in
     subst (λ (x : Given). StandsOn g.C.LinkCore.protocol core terms wish x c.args.now cut talk c.answered.result c.answered.new.self) (sym c.in-Answered.is)
-    (stands_on_behind g.C.LinkCore.protocol core terms wish c.answered.result (given_is.Answered c.in-Answered.outcome) c.args.now cut talk (with_step_at c.args.self.now.latest (records q.0 c.in-Answered.outcome) (with_reading c.args.now talk)) c.answered.new.self q.1 (c.answered.ensures.law core terms (with_reading c.args.now talk) q.0 q.2))
+    (stands_on_behind g.C.LinkCore.protocol core terms wish c.answered.result (given_is.Answered c.in-Answered.outcome) c.args.now cut talk (with_step_at c.args.now (records q.0 c.in-Answered.outcome) talk) c.answered.new.self q.1 (c.answered.ensures.law core terms talk q.0 q.2))
 
 pub returns-in-Passed-clause-law : goal.returns-in-Passed-clause-law
 returns-in-Passed-clause-law g c = λ core terms talk wish cut stands may.
@@ -92,7 +92,7 @@ returns-in-Passed-clause-law g c = λ core terms talk wish cut stands may.
     let may' = subst (λ (x : Given). MayBeCut wish x cut) c.in-Passed.is may in
     let q = goes_passed g.C.LinkCore.protocol core terms c.args.now cut talk c.args.self.now wish c.args.self.now.phase refl fits stands in
     subst (λ (x : Given). StandsOn g.C.LinkCore.protocol core terms wish x c.args.now cut talk c.passed.result c.passed.new.self) (sym c.in-Passed.is)
-    (stands_on_behind g.C.LinkCore.protocol core terms wish c.passed.result given_is.Passed c.args.now cut talk (with_step_at c.args.self.now.latest (passed_step c.args.self.now.phase q.0) (with_reading c.args.now talk)) c.passed.new.self q.1 (c.passed.ensures.law core terms (with_reading c.args.now talk) q.0 q.2))
+    (stands_on_behind g.C.LinkCore.protocol core terms wish c.passed.result given_is.Passed c.args.now cut talk (with_step_at c.args.now (passed_step c.args.self.now.phase q.0) talk) c.passed.new.self q.1 (c.passed.ensures.law core terms talk q.0 q.2))
 
 pub returns-in-Taken-clause-law : goal.returns-in-Taken-clause-law
 returns-in-Taken-clause-law g c = λ core terms talk wish cut stands may.
@@ -100,7 +100,7 @@ returns-in-Taken-clause-law g c = λ core terms talk wish cut stands may.
     let may' = subst (λ (x : Given). MayBeCut wish x cut) c.in-Taken.is may in
     let q = goes_taken g.C.LinkCore.protocol core terms c.in-Taken.outcome c.args.now cut talk c.args.self.now wish fits.0 stands in
     subst (λ (x : Given). StandsOn g.C.LinkCore.protocol core terms wish x c.args.now cut talk c.taken.result c.taken.new.self) (sym c.in-Taken.is)
-    (stands_on_behind g.C.LinkCore.protocol core terms wish c.taken.result (given_is.Taken c.in-Taken.outcome) c.args.now cut talk (with_step_at c.args.self.now.latest (takes q.0 c.in-Taken.outcome) (with_reading c.args.now talk)) c.taken.new.self q.1 (c.taken.ensures.law core terms (with_reading c.args.now talk) q.0 q.2))
+    (stands_on_behind g.C.LinkCore.protocol core terms wish c.taken.result (given_is.Taken c.in-Taken.outcome) c.args.now cut talk (with_step_at c.args.now (takes q.0 c.in-Taken.outcome) talk) c.taken.new.self q.1 (c.taken.ensures.law core terms talk q.0 q.2))
 
 pub returns-in-Starved-clause-law : goal.returns-in-Starved-clause-law
 returns-in-Starved-clause-law g c = λ core terms talk wish cut stands may.
@@ -108,10 +108,10 @@ returns-in-Starved-clause-law g c = λ core terms talk wish cut stands may.
     let may' = subst (λ (x : Given). MayBeCut wish x cut) c.in-Starved.is may in
     subst (λ (x : Given). StandsOn g.C.LinkCore.protocol core terms wish x c.args.now cut talk c.broken-in-Starved.result c.broken-in-Starved.new.self) (sym c.in-Starved.is)
     (elim fits [
-      | inl listening ↦ let q = goes_over g.C.LinkCore.protocol core terms given_is.Starved end_is.Memory c.args.now cut talk c.args.self.now wish listening stands refl refl refl (λ idle. inl idle.whole) in
-          stands_on g.C.LinkCore.protocol core terms wish c.broken-in-Starved.result given_is.Starved c.args.now cut talk (with_reading c.args.now talk) c.broken-in-Starved.new.self q.0
-          (c.broken-in-Starved.ensures.law core terms (with_reading c.args.now talk) (subst (λ (p : Phase). Ends g.C.LinkCore.protocol core terms end_is.Memory (message_in p) (with_reading c.args.now talk) (record c.args.self.now { latest = c.args.now })) (sym listening) q.1))
-      | inr saying ↦ let q = goes_broken g.C.LinkCore.protocol core terms given_is.Starved end_is.Memory saying.0 c.args.now cut talk c.args.self.now wish saying.1 stands refl (λ o. refl) (λ o. refl) (λ o e. subst (λ (w : Wish). MayBeCut w given_is.Starved cut) e may') (λ off. inr off) in
+      | inl listening ↦ let q = goes_over g.C.LinkCore.protocol core terms given_is.Starved end_is.Memory c.args.now cut talk c.args.self.now wish listening stands refl refl refl (λ idle. inl idle.0.whole) in
+          stands_on g.C.LinkCore.protocol core terms wish c.broken-in-Starved.result given_is.Starved c.args.now cut talk (with_step_at c.args.now listens talk) c.broken-in-Starved.new.self q.0
+          (c.broken-in-Starved.ensures.law core terms (with_step_at c.args.now listens talk) (subst (λ (p : Phase). Ends g.C.LinkCore.protocol core terms end_is.Memory (message_in p) (with_step_at c.args.now listens talk) (record c.args.self.now { latest = c.args.now })) (sym listening) q.1))
+      | inr saying ↦ let q = goes_broken g.C.LinkCore.protocol core terms given_is.Starved end_is.Memory saying.0 c.args.now cut talk c.args.self.now wish saying.1 c.requires.fits.order stands refl (λ o. refl) (λ o. refl) (λ o e. subst (λ (w : Wish). MayBeCut w given_is.Starved cut) e may') (λ off. inr off) in
           stands_on g.C.LinkCore.protocol core terms wish c.broken-in-Starved.result given_is.Starved c.args.now cut talk (record (with_reading c.args.now talk) { cut = cut }) c.broken-in-Starved.new.self q.0
           (c.broken-in-Starved.ensures.law core terms (record (with_reading c.args.now talk) { cut = cut }) (subst (λ (p : Phase). Ends g.C.LinkCore.protocol core terms end_is.Memory (message_in p) (record (with_reading c.args.now talk) { cut = cut }) (record c.args.self.now { latest = c.args.now })) (sym saying.1) q.1))
     ])

@@ -1,4 +1,4 @@
-use Rattle.std.proofs.Common.{subst, sym, []}
+use Rattle.std.proofs.Common.{subst, sym, refl, []}
 use Rattle.link_turn.specs.Steps.{says}
 use Rattle.link_turn.specs.SessionSteps.{WasSaid, StandsBehind, with_step_at}
 use Rattle.link_core.specs.declared.out.Out.{Out}
