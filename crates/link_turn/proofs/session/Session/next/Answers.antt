@@ -1,7 +1,7 @@
 use Rattle.std.proofs.Common.{◌≡◌, List, ℕ, ◌+◌, subst, sym, ap, refl, inl, inr, arith}
 use Rattle.link_turn.specs.Steps.{listens, says, records, takes}
 use Rattle.link_turn.specs.Session.{FitsPhase, MayBeCut, no_talk}
-use Rattle.link_turn.specs.SessionSteps.{StandsOn, Heeds, Ends, with_step_at, with_octets, message_in, passed_step}
+use Rattle.link_turn.specs.SessionSteps.{StandsOn, StandsBehind, Heeds, Ends, with_step_at, with_octets, message_in, passed_step}
 use Rattle.link_turn.specs.declared.end_cause.EndCause.TheVariants as end_is
 use Rattle.link_turn.specs.declared.given.Given.{Given}
 use Rattle.link_turn.specs.declared.given.Given.TheVariants as given_is
@@ -27,7 +27,8 @@ returns-in-Heard-clause-law g c = λ core terms talk wish cut stands may.
     let q = goes_heard g.C.LinkCore.protocol core terms c.in-Heard.octets c.args.now cut talk c.args.self.now wish fits.0 stands in
     subst (λ (x : Given). StandsOn g.C.LinkCore.protocol core terms wish x c.args.now cut talk c.hear.result c.hear.new.self) (sym c.in-Heard.is)
     (stands_on_behind g.C.LinkCore.protocol core terms wish c.hear.result (given_is.Heard c.in-Heard.octets) c.args.now cut talk (with_octets c.in-Heard.octets (with_step_at c.args.now listens talk)) c.hear.new.self q.0
-    (c.hear.ensures.law core terms talk (subst (λ (o : List ℕ). Heeds g.C.LinkCore.protocol core terms o talk (record c.args.self.now { latest = c.args.now })) (sym c.as_slice.ensures) q.1)))
+    (subst (λ (o : List ℕ). StandsBehind g.C.LinkCore.protocol core terms c.hear.result (with_octets o (with_step_at c.args.now listens talk)) c.hear.new.self) c.as_slice.ensures
+    (c.hear.ensures.law core terms talk (subst (λ (o : List ℕ). Heeds g.C.LinkCore.protocol core terms o talk (record c.args.self.now { latest = c.args.now })) (sym c.as_slice.ensures) q.1))))
 
 pub returns-in-Quiet-clause-law : goal.returns-in-Quiet-clause-law
 returns-in-Quiet-clause-law g c = λ core terms talk wish cut stands may.

@@ -17,3 +17,6 @@ returns-clause-law g c = λ core terms talk time w.
           (record { core = a.0.core; terms = a.0.terms; up = a.0.up; now = a.0.now; spoke = a.0.spoke; tag = refl; found = a.0.found })
           (a.1 ∙ c.reserve.ensures.items) a.2 a.3 c.take_tag-tag.ensures.last c.requires.fresh c.take_tag-tag.ensures.free c.requires.room),
     )
+
+pub returns-in_default-clause-law : goal.returns-in_default-clause-law
+returns-in_default-clause-law g c = λ core terms talk time w. ([], c.end.ensures.law core terms (with_step_at c.args.self.now.latest (takes time (Ok (Some (taken.Send c.args.message c.args.sms)))) talk) (taken_not g.C.LinkCore.protocol core terms time c.args.message c.args.sms talk c.args.self.now _ w refl refl refl c.reserve.ensures.items c.requires.fresh))
