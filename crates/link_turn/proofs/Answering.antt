@@ -14,14 +14,13 @@ use Rattle.gate_store.specs.declared.taken.Taken.TheVariants as taken
 use Rattle.link_core.specs.Streams.{AreFrames}
 use Rattle.link_core.specs.declared.heard.Heard.{Heard}
 use Rattle.link_core.specs.declared.heard.Heard.TheVariants as heard_is
-use Rattle.link_core.specs.declared.out.Out.{Out}
 use Rattle.link_core.specs.declared.out.Out.TheVariants as out_is
 use Rattle.sms_record.specs.declared.sms.Sms.{Sms}
 use Rattle.link_turn.specs.Steps.{Step, hears, listens, says, records, passes, takes, leaves, heards_in}
-use Rattle.link_turn.specs.Back.{in_use, last_tag, held, is_up, without_any, is_nothing, IsFree, IsAmong}
+use Rattle.link_turn.specs.Back.{in_use, last_tag, held, is_up, without_any, is_nothing, IsAmong}
 use Rattle.link_turn.specs.Due.{Due, nothing, come_up, give_back, say, over, due, due_by_entry, due_by_outcome, answer_to, answer_without_room, end_by, passing_for}
 use Rattle.link_turn.specs.Session.{Talk, messages}
-use Rattle.link_turn.specs.SessionSteps.{AreApart, with_step_at, message_ended, Agrees, Keeps, Frames, IsHere, Holds, IsReady, Owes, Ends, IsToRecord, Speaks, Records, WasTaken, HasPassedIn, passed_step}
+use Rattle.link_turn.specs.SessionSteps.{AreApart, with_step_at, message_ended, Agrees, Keeps, IsHere, Holds, IsReady, Owes, Ends, IsToRecord, Speaks, Records, WasTaken, HasPassedIn, passed_step}
 use Rattle.link_turn.specs.Talk.{IsWhole, IsNextFree, IsLast, IsCause}
 use Rattle.link_turn.specs.declared.end_cause.EndCause.{EndCause}
 use Rattle.link_turn.specs.declared.end_cause.EndCause.TheVariants as end_is

@@ -11,9 +11,6 @@ use Rattle.gate_store.specs.declared.store.Store.{Store}
 use Rattle.gate_store.proofs.Keeping.{StaysOpen, performs_keeps, passes_keeps, takes_keeps}
 use Rattle.kn_base.specs.Clock.{Adds}
 use Rattle.kn_base.specs.Course.{Course}
-use Rattle.link_core.specs.declared.heard.Heard.{Heard}
-use Rattle.link_core.specs.declared.out.Out.{Out}
-use Rattle.route_rules.specs.declared.link_kind.LinkKind.{LinkKind}
 use Rattle.store_disk.specs.Meaning.{Meaning}
 use Rattle.link_turn.specs.Back.{held, is_up}
 use Rattle.link_turn.specs.Session.{Talk, IsFresh, IsSession, MayBeRecorded, MayBeCut, deeds_by, heard_by, now_of, terms_of}

@@ -5,8 +5,6 @@ use Rattle.std.specs.Prelude.{Option, Some, None, IfSome}
 use Rattle.gate_store.specs.declared.store.Store.{Store}
 use Rattle.kn_base.specs.Count.{Counts, Rose}
 use Rattle.kn_base.specs.Course.{Course, Fails}
-use Rattle.link_core.specs.declared.heard.Heard.{Heard}
-use Rattle.link_core.specs.declared.out.Out.{Out}
 use Rattle.store_disk.specs.Meaning.{Meaning}
 use Rattle.link_turn.specs.Session.{Talk}
 use Rattle.link_turn.specs.SessionSteps.{Stands, StandsIn}

@@ -1,6 +1,6 @@
 -- What a session wishes may be done.
 use Rattle.link_core.specs.Protocol.{Protocol}
-use Rattle.std.proofs.Common.{◌≡◌, ◌≢◌, ◌∙◌, refl, sym, ap, subst, ℕ, ◌+◌, Bool, true, inl, inr, List, [], ◌∷◌, ◌++◌, All, arith}
+use Rattle.std.proofs.Common.{◌≡◌, ◌≢◌, ◌∙◌, refl, sym, ap, subst, ℕ, ◌+◌, Bool, true, List, [], ◌∷◌, ◌++◌, All, arith}
 use Rattle.std.specs.Prelude.{⊤, Option, Some, None, IfSome, IsSomeAnd, is_some, ◌&&◌}
 use Rattle.std.proofs.lemmas.List.Elements.{All-head, All-tail}
 use Rattle.std.proofs.lemmas.Slice.Eq.{bytes_eq-Decides}
@@ -19,10 +19,6 @@ use Rattle.gate_model.specs.declared.waiting.Waiting.{Waiting}
 use Rattle.gate_store.specs.Store.{IsOpen, rules_in, state_in}
 use Rattle.gate_store.specs.StoreSteps.{MayRecord}
 use Rattle.gate_store.specs.declared.store.Store.{Store}
-use Rattle.link_core.specs.declared.heard.Heard.{Heard}
-use Rattle.link_core.specs.declared.heard.Heard.TheVariants as heard_is
-use Rattle.link_core.specs.declared.out.Out.{Out}
-use Rattle.link_core.specs.declared.out.Out.TheVariants as out_is
 use Rattle.store_disk.specs.Meaning.{Meaning}
 use Rattle.link_turn.specs.Back.{held, is_up, ended_by, IsAmong}
 use Rattle.link_turn.specs.Steps.{Step, times_of_entry}
@@ -32,12 +28,10 @@ use Rattle.link_turn.specs.SessionSteps.{Records, Stands, StandsIn}
 use Rattle.link_turn.specs.Talk.{AreLast, IsLast, MayLeave}
 use Rattle.link_turn.specs.Turn.{IsOf, IsReading}
 use Rattle.link_turn.specs.TurnSteps.{MayDo}
-use Rattle.link_turn.specs.declared.end_cause.EndCause.TheVariants as end_is
 use Rattle.link_turn.specs.declared.session.Phase.{Phase}
 use Rattle.link_turn.specs.declared.session.Phase.TheVariants.{Fresh, Listening, ComingUp, GivingBack, Taking, Leaving, Done}
 use Rattle.link_turn.specs.declared.session.Phase.TheVariants as phase_is
 use Rattle.link_turn.specs.declared.session.Recording.{Recording}
-use Rattle.link_turn.specs.declared.session.Recording.TheVariants as recording_is
 use Rattle.link_turn.specs.declared.session.Session.{Session}
 use Rattle.link_turn.specs.declared.terms.Terms.{Terms}
 use Rattle.link_turn.specs.declared.wish.Wish.{Wish}

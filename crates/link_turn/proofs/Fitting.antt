@@ -20,8 +20,6 @@ use Rattle.kn_base.specs.Count.{Rose}
 use Rattle.kn_base.specs.Course.{Course}
 use Rattle.kn_base.specs.Talk.{SaysAll, SaysFront}
 use Rattle.link_core.specs.Saying.{IsSubmit}
-use Rattle.link_core.specs.declared.heard.Heard.{Heard}
-use Rattle.link_core.specs.declared.out.Out.{Out}
 use Rattle.route_rules.specs.Carriage.{carries}
 use Rattle.route_rules.specs.declared.link_kind.LinkKind.{LinkKind}
 use Rattle.route_rules.specs.declared.link_rule.LinkRule.{LinkRule}

@@ -13,12 +13,11 @@ use Rattle.exact_octets.specs.Fronts.{IsProperFront}
 use Rattle.link_core.specs.Grammar.{IsFrame, HasFirst}
 use Rattle.link_core.specs.declared.heard.Heard.{Heard}
 use Rattle.link_core.specs.declared.out.Out.{Out}
-use Rattle.link_core.specs.declared.out.Out.TheVariants as out_is
 use Rattle.link_turn.specs.Steps.{Step, passed, hears, listens, says, records, passes, takes, leaves, heards_in, said_in, deeds_in}
 use Rattle.std.proofs.lemmas.Bool.{false≢true}
 use Rattle.link_turn.specs.Due.{Due, come_up, give_back, due, out_for}
 use Rattle.link_turn.specs.Session.{Talk, no_talk, messages, GoesOn, spoken_in, heard_by, spoken_by, deeds_by, IsCutShort}
-use Rattle.link_turn.specs.SessionSteps.{AreApart, with_step_at, with_octets, handled, with_handled, message_said, message_ended, passed_step, Agrees, Keeps, Frames, Holds, IsReady, Owes, Ends, Begins, Heeds, IsToSay, Speaks, WasSaid, WasRecorded, HasPassedIn, WasTaken, IsLeaving, IsOver, Stands, StandsIn, StandsBehind, StandsOn}
+use Rattle.link_turn.specs.SessionSteps.{AreApart, with_step_at, with_octets, handled, with_handled, message_said, message_ended, passed_step, Keeps, Frames, Holds, IsReady, Owes, Ends, Begins, Heeds, IsToSay, Speaks, WasSaid, WasRecorded, HasPassedIn, WasTaken, IsLeaving, IsOver, Stands, StandsIn, StandsBehind, StandsOn}
 use Rattle.link_turn.specs.Talk.{MaySay, IsCause, BreaksOff, IsWaiting, LinkTalk}
 use Rattle.link_turn.specs.declared.end_cause.EndCause.{EndCause}
 use Rattle.link_turn.specs.declared.given.Given.{Given}
@@ -28,7 +27,6 @@ use Rattle.link_turn.specs.declared.session.Phase.TheVariants.{Fresh, Listening,
 use Rattle.link_turn.specs.declared.session.Phase.TheVariants as phase_is
 use Rattle.link_turn.specs.declared.session.Recording.{Recording}
 use Rattle.link_turn.specs.declared.session.Saying.{Saying}
-use Rattle.link_turn.specs.declared.session.Saying.TheVariants as saying_is
 use Rattle.link_turn.specs.declared.session.Session.{Session}
 use Rattle.link_turn.specs.declared.terms.Terms.{Terms}
 use Rattle.link_turn.specs.declared.wish.Wish.{Wish}

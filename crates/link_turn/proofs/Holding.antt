@@ -28,7 +28,6 @@ use Rattle.gate_store.specs.declared.store.Store.{Store}
 use Rattle.gate_store.specs.declared.taken.Taken.{Taken}
 use Rattle.gate_store.specs.declared.taken.Taken.TheVariants as taken
 use Rattle.route_rules.specs.declared.rules.Rules.{Rules}
-use Rattle.sms_record.specs.declared.kind.Kind.TheVariants as kind_is
 use Rattle.store_disk.specs.Meaning.{Meaning}
 use Rattle.link_turn.specs.Back.{held, is_up, held_recorded, held_taken, without_any, ended_by, given_back_by, up_passed}
 use Rattle.link_turn.specs.Steps.{Step, hears, listens, says, records, passes, takes, leaves, Deed, performed, passed, took, deeds_in}

@@ -4,7 +4,6 @@ use Rattle.std.proofs.Common.{◌≡◌, ◌∙◌, refl, sym, ap, subst, ℕ, t
 use Rattle.std.specs.Prelude.{Option, None}
 use Rattle.link_core.specs.Streams.{AreFrames}
 use Rattle.link_core.specs.declared.heard.Heard.{Heard}
-use Rattle.link_core.specs.declared.out.Out.{Out}
 use Rattle.link_turn.specs.Steps.{hears, listens, heards_in}
 use Rattle.link_turn.specs.Back.{login_heard, uses_heard}
 use Rattle.link_turn.specs.Due.{Due, nothing, due_by}

@@ -4,8 +4,6 @@ use Rattle.std.proofs.Common.{◌≡◌, ◌∙◌, sym, ap, subst, ℕ, true, f
 use Rattle.std.specs.Prelude.{Option, Some, None, IfSome}
 use Rattle.std.proofs.lemmas.List.{append-nil}
 use Rattle.gate_entries.specs.declared.passing.Passing.TheVariants.{Down, Returned}
-use Rattle.link_core.specs.declared.heard.Heard.{Heard}
-use Rattle.link_core.specs.declared.out.Out.{Out}
 use Rattle.link_turn.specs.Steps.{Step, leaves}
 use Rattle.link_turn.specs.Back.{held, messages_out, without_message, IsAmong}
 use Rattle.link_turn.specs.Session.{Talk, messages}

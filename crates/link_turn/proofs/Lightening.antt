@@ -9,8 +9,6 @@ use Rattle.gate_store.specs.Store.{IsOpen, state_in}
 use Rattle.gate_store.specs.declared.store.Store.{Store}
 use Rattle.gate_store.specs.declared.taken.Taken.{Taken}
 use Rattle.kn_base.specs.Course.{Course}
-use Rattle.link_core.specs.declared.heard.Heard.{Heard}
-use Rattle.link_core.specs.declared.out.Out.{Out}
 use Rattle.store_disk.specs.Meaning.{Meaning}
 use Rattle.link_turn.specs.Session.{Talk}
 use Rattle.link_turn.specs.SessionSteps.{Stands, StandsIn}

@@ -9,7 +9,6 @@ use Rattle.exact_octets.specs.Fronts.{IsProperFront}
 use Rattle.link_core.specs.Grammar.{IsFrame, HasFirst, NoneComes, IsGrammar}
 use Rattle.link_core.specs.Streams.{AreFrames}
 use Rattle.link_core.specs.declared.heard.Heard.{Heard}
-use Rattle.link_core.specs.declared.out.Out.{Out}
 use Rattle.link_turn.specs.Steps.{listens, heards_in}
 use Rattle.link_turn.specs.Back.{is_up, last_said}
 use Rattle.std.specs.Prelude.{find, option_map, ◌-◌, ◌&&◌, not, nat_lt, nat_le}

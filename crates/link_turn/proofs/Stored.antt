@@ -15,7 +15,6 @@ use Rattle.gate_model.specs.Settling.{settle, free_waiting}
 use Rattle.gate_model.specs.State.{State}
 use Rattle.gate_store.specs.Entries.{AreInTurn}
 use Rattle.sms_record.specs.Record.{IsSms}
-use Rattle.sms_record.specs.declared.kind.Kind.TheVariants as kind
 use Rattle.sms_record.specs.declared.sms.Sms.{Sms}
 
 -- each message that waits has a record

@@ -7,8 +7,6 @@ use Rattle.gate_store.specs.Store.{rules_in, state_in}
 use Rattle.gate_store.specs.declared.store.Store.{Store}
 use Rattle.kn_base.specs.Clock.{Adds}
 use Rattle.kn_base.specs.Course.{Course}
-use Rattle.link_core.specs.declared.heard.Heard.{Heard}
-use Rattle.link_core.specs.declared.out.Out.{Out}
 use Rattle.route_rules.specs.declared.link_kind.LinkKind.{LinkKind}
 use Rattle.store_disk.specs.Meaning.{Meaning}
 use Rattle.gate_entries.specs.declared.passing.Passing.TheVariants.{Up, Returned}

@@ -10,7 +10,6 @@ use Rattle.link_core.specs.Grammar.{IsFrame}
 use Rattle.link_core.specs.Protocol.{Protocol}
 use Rattle.link_core.specs.Saying.{IsSubmit}
 use Rattle.link_core.specs.Tags.{nth_tag}
-use Rattle.link_core.specs.declared.heard.Heard.{Heard}
 use Rattle.link_core.specs.declared.out.Out.{Out}
 use Rattle.route_rules.specs.declared.link_kind.LinkKind.{LinkKind}
 use Rattle.sms_record.specs.Limits.{most_name}

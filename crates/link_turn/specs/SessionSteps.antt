@@ -11,7 +11,7 @@ use Rattle.link_core.specs.declared.heard.Heard.{Heard}
 use Rattle.link_core.specs.declared.out.Out.{Out}
 use Rattle.link_core.specs.declared.out.Out.TheVariants as out_is
 use Rattle.sms_record.specs.declared.sms.Sms.{Sms}
-use Rattle.link_turn.specs.Steps.{Step, hears, listens, passes, leaves, heards_in, times_of_entry, times_of_out, deeds_in}
+use Rattle.link_turn.specs.Steps.{Step, hears, passes, leaves, heards_in, times_of_entry, times_of_out, deeds_in}
 use Rattle.link_turn.specs.Back.{open_login, in_use, messages_out, last_tag, tag_said, held, is_up, last_said, found_none, before_end, without_any, ended_by, IsFree, IsAmong}
 use Rattle.link_turn.specs.Due.{Due, nothing, come_up, give_back, send, say, due, answer_to, entry_for}
 use Rattle.link_turn.specs.Session.{Talk, no_talk, messages, Rests, IsNew, GoesOn, spoken_in}

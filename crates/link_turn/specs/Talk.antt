@@ -8,7 +8,6 @@ use Rattle.exact_octets.specs.Fronts.{IsProperFront}
 use Rattle.link_core.specs.Grammar.{IsFrame, HasFirst, NoneComes}
 use Rattle.link_core.specs.Streams.{AreFrames}
 use Rattle.link_core.specs.Tags.{nth_tag}
-use Rattle.link_core.specs.declared.heard.Heard.{Heard}
 use Rattle.link_core.specs.declared.out.Out.{Out}
 use Rattle.link_turn.specs.Steps.{Step, hears, listens, says, records, passes, takes, leaves, Deed, heards_in, said_in, times_of, times_of_out, deeds_in}
 use Rattle.link_turn.specs.Back.{open_login, in_use, messages_out, last_tag, held, is_up, last_said, before_end, IsFree, IsAmong}

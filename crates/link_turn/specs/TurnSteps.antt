@@ -16,9 +16,6 @@ use Rattle.kn_base.specs.Count.{Counts, Rose}
 use Rattle.kn_base.specs.Course.{Course, with_more, IsQuiet, Fails, Ends}
 use Rattle.kn_base.specs.Talk.{SaysAll, SaysFront}
 use Rattle.kn_base.specs.declared.piece.Piece.TheVariants as piece_is
-use Rattle.link_core.specs.declared.heard.Heard.{Heard}
-use Rattle.link_core.specs.declared.out.Out.{Out}
-use Rattle.route_rules.specs.declared.link_kind.LinkKind.{LinkKind}
 use Rattle.store_disk.specs.Meaning.{Meaning}
 use Rattle.link_turn.specs.Back.{held, is_up}
 use Rattle.link_turn.specs.Session.{Talk, IsFresh, IsSession, MayBeRecorded, now_of, spoken_in}

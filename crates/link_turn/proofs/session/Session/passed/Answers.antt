@@ -11,9 +11,11 @@ use Rattle.link_turn.proofs.session.Session.passed.Goals as goal
 pub returns-in-Leaving-clause-law : goal.returns-in-Leaving-clause-law
 returns-in-Leaving-clause-law g c = λ core terms talk brief passed.
     let l = subst (λ (ph : Phase). HasPassedIn g.C.LinkCore.protocol core terms ph brief talk c.args.self.now) c.in-Leaving.is passed in
-    subst (λ (p : Phase). StandsBehind g.C.LinkCore.protocol core terms c.leave.result (with_step_at c.args.self.now.latest (passed_step p brief) talk) c.leave.new.self) (sym c.in-Leaving.is)
-    ([], c.leave.ensures.law core terms (with_step_at c.args.self.now.latest (leaves brief) talk)
-        (leaving_read g.C.LinkCore.protocol core terms c.in-Leaving.cause c.in-Leaving.held c.args.self.now.latest (with_step (leaves brief) talk) c.args.self.now l))
+    subst (λ (p : Phase). StandsBehind g.C.LinkCore.protocol core terms c.leave.result (with_step_at c.args.self.now.latest (passed_step p brief) talk) c.leave.new.self) (sym c.in-Leaving.is) (
+      [],
+      c.leave.ensures.law core terms (with_step_at c.args.self.now.latest (leaves brief) talk)
+          (leaving_read g.C.LinkCore.protocol core terms c.in-Leaving.cause c.in-Leaving.held c.args.self.now.latest (with_step (leaves brief) talk) c.args.self.now l),
+    )
 
 pub returns-in-ComingUp-clause-law : goal.returns-in-ComingUp-clause-law
 returns-in-ComingUp-clause-law g c = λ core terms talk brief passed.

@@ -1,5 +1,4 @@
-use Rattle.std.proofs.Common.{[], ◌∙◌, refl, arith}
-use Rattle.link_turn.proofs.Weighing.{tag_weighs}
+use Rattle.std.proofs.Common.{[], ◌∙◌, refl}
 use Rattle.link_turn.proofs.Keeping.{tag_taken}
 use Rattle.link_turn.proofs.Answering.{taken_speaks, taken_not}
 use Rattle.std.specs.Prelude.{Ok, Some}
